@@ -1,0 +1,70 @@
+-- Laws of the refusals' numbers and of ordered checks.
+use mathlib.Core.Path.{_≡_, refl, ap}
+use mathlib.Core.Bool.{Bool, true, false, cond}
+use mathlib.Core.List.{List, [], _∷_, _++_}
+use Prim.Native.Nat.{ℕ, _≤_}
+use native.Mathlib.Omega.{arith}
+use lib.Dec.{T, lit≤}
+use Rattle.answers.specs.declared.Refusal.{Refusal}
+use Rattle.answers.specs.declared.Refusal.the-variants.{Fine, NoSet, Table, Key, Message, Limit, Room, Pair, Blocks, Length, Header, Padding, Differs}
+use Rattle.answers.specs.Answers.{number, fine, Check, when, first}
+
+-- by cases, for any property
+pub each-refusal : (P : Refusal → Type 0) → P Fine → P NoSet → P Table → P Key → P Message → P Limit → P Room → P Pair → P Blocks
+    → P Length → P Header → P Padding → P Differs → (r : Refusal) → P r
+each-refusal P a b c d e f g h i j k l m Fine = a
+each-refusal P a b c d e f g h i j k l m NoSet = b
+each-refusal P a b c d e f g h i j k l m Table = c
+each-refusal P a b c d e f g h i j k l m Key = d
+each-refusal P a b c d e f g h i j k l m Message = e
+each-refusal P a b c d e f g h i j k l m Limit = f
+each-refusal P a b c d e f g h i j k l m Room = g
+each-refusal P a b c d e f g h i j k l m Pair = h
+each-refusal P a b c d e f g h i j k l m Blocks = i
+each-refusal P a b c d e f g h i j k l m Length = j
+each-refusal P a b c d e f g h i j k l m Header = k
+each-refusal P a b c d e f g h i j k l m Padding = l
+each-refusal P a b c d e f g h i j k l m Differs = m
+
+-- a refusal's number is small
+pub number-most : (r : Refusal) → number r ≤ 12
+number-most =
+    each-refusal (λ (r : Refusal). number r ≤ 12) (lit≤ tt) (lit≤ tt) (lit≤ tt) (lit≤ tt) (lit≤ tt) (lit≤ tt) (lit≤ tt) (lit≤ tt) (lit≤ tt) (lit≤ tt)
+    (lit≤ tt) (lit≤ tt) (lit≤ tt)
+
+no : {A : Type 0} → false ≡ true → A
+no e = let z : _≡_ {A = ℕ} 1 0 = ap (λ (b : Bool). cond b 0 1) e in absurd (omega arith)
+
+-- only Fine is fine
+pub fine-is : (r : Refusal) → fine r ≡ true → r ≡ Fine
+fine-is = each-refusal (λ (r : Refusal). fine r ≡ true → r ≡ Fine) (λ e. refl) no no no no no no no no no no no no
+
+-- ---- the first check that holds
+
+-- a check that holds is answered
+pub stop : (b : Bool) (r : Refusal) (ks : List Check) → b ≡ true → first (when b r ∷ ks) ≡ r
+unfolding first
+stop b r ks e = rw e
+
+-- one that does not is passed
+pub skip : (b : Bool) (r : Refusal) (ks : List Check) → b ≡ false → first (when b r ∷ ks) ≡ first ks
+unfolding first
+skip b r ks e = rw e
+
+-- each check of a list gives a refusal
+abbrev pub refusing : List Check → Bool
+refusing [] = true
+refusing (k ∷ ks) = cond (fine (k .gives)) false (refusing ks)
+
+joined-one : (b f : Bool) (g x y z : Refusal) (rest : Bool) → fine g ≡ f → T (cond f false rest) → (T rest → z ≡ cond (fine x) y x)
+    → cond b g z ≡ cond (fine (cond b g x)) y (cond b g x)
+joined-one true false g x y z rest e t h = rw e
+joined-one false false g x y z rest e t h = h t
+joined-one b true g x y z rest e t h = absurd t
+
+-- two groups of checks: the second is asked where the first passes
+pub first-append : (xs ys : List Check) → T (refusing xs) → first (xs ++ ys) ≡ cond (fine (first xs)) (first ys) (first xs)
+unfolding first
+first-append [] ys t = refl
+first-append (k ∷ xs) ys t =
+    joined-one (k .holds) (fine (k .gives)) (k .gives) (first xs) (first ys) (first (xs ++ ys)) (refusing xs) refl t (first-append xs ys)

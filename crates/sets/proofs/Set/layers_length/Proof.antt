@@ -1,0 +1,25 @@
+-- `sets::Set::layers_length` meets its contract.
+use Prim.Native.Nat.{_*_}
+use Rattle.bits.specs.Bytes.{width}
+use Rattle.sets.specs.declared.Set.{Set}
+use Rattle.sets.proofs.Each.{fits-set}
+use Rattle.sets.specs.Lengths.{layersLength}
+use borrow.Author.Needs.{needs}
+use Rattle.sets.proofs.Set.layers_length.Statement.{statement}
+use Rattle.sets.proofs.Set.layers_length.Tie as tie
+
+mul-result : tie.Need-mul-result
+mul-result c = fits-set (λ (p : Set). p .r * p .n) tt tt tt (c .before .pre)
+
+width-requires : tie.Need-width-requires
+width-requires c κs = search needs
+
+mul-result-2 : tie.Need-mul-result-2
+unfolding width
+mul-result-2 c = rw (c .width .ensures) (fits-set (λ (p : Set). layersLength p) tt tt tt (c .before .before .pre))
+
+returns : tie.Need-returns
+returns c = rw (c .width .ensures)
+
+pub layers-length-spec : {M : Type 1} → statement M
+layers-length-spec = tie.close (tie.spec mul-result width-requires mul-result-2 returns)

@@ -1,0 +1,17 @@
+//! The second program: Picnic written once more, from the documents alone.
+//!
+//! It shares no code and no table file with the signing library. Where both
+//! give the same bytes, an error would have to have been made twice.
+//!
+//! The rules followed are those of the scope paper ("01"), of the Picnic
+//! specification 2.1 ("001") where 01 leaves them standing, and of FIPS 202.
+
+#![forbid(unsafe_code)]
+#![warn(missing_docs)]
+
+pub mod bits;
+pub mod hex;
+pub mod keccak;
+pub mod lowmc;
+pub mod sets;
+pub mod shake;

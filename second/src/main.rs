@@ -1,0 +1,124 @@
+//! The second program at the command line.
+
+use std::env;
+use std::io::{self, Read, Write};
+use std::process::ExitCode;
+use std::str::FromStr;
+
+use second::hex::{from_hex, to_hex};
+use second::lowmc::Lowmc;
+use second::sets::Set;
+use second::shake::{shake, Hash, Sponge};
+
+const HELP: &str = "\
+second help
+    print this text
+second shake {128|256} OUTLEN
+    hash standard input and print OUTLEN bytes of output in hex
+second tables N S R
+    draw the LowMC tables for N bits, S S-boxes and R rounds, and print the
+    SHAKE256 digests (32 bytes, in hex) of the key matrices, the layer
+    matrices and the round constants, one a line
+second encrypt SET KEYHEX BLOCKHEX
+    encrypt a block with the LowMC of set 1, 2 or 3 over its drawn tables and
+    print the ciphertext in hex
+";
+
+/// What went wrong, in words for the user.
+type Refusal = String;
+
+fn main() -> ExitCode {
+    let arguments: Vec<String> = env::args_os()
+        .skip(1)
+        .map(|argument| argument.to_string_lossy().into_owned())
+        .collect();
+    match run(&arguments, &mut io::stdin(), &mut io::stdout()) {
+        Ok(()) => ExitCode::SUCCESS,
+        Err(refusal) => {
+            eprintln!("second: {refusal}");
+            ExitCode::FAILURE
+        }
+    }
+}
+
+/// Runs one subcommand.
+fn run(arguments: &[String], input: &mut dyn Read, output: &mut dyn Write) -> Result<(), Refusal> {
+    let arguments: Vec<&str> = arguments.iter().map(String::as_str).collect();
+    match arguments[..] {
+        ["help"] => print(output, HELP),
+        ["shake", which, length] => run_shake(which, length, input, output),
+        ["tables", n, s, r] => run_tables(n, s, r, output),
+        ["encrypt", set, key, block] => run_encrypt(set, key, block, output),
+        _ => Err("no such subcommand with so many arguments; try: second help".into()),
+    }
+}
+
+fn run_shake(
+    which: &str,
+    length: &str,
+    input: &mut dyn Read,
+    output: &mut dyn Write,
+) -> Result<(), Refusal> {
+    let hash = match which {
+        "128" => Hash::Shake128,
+        "256" => Hash::Shake256,
+        _ => return Err(format!("{which}: neither 128 nor 256")),
+    };
+    let mut left: u64 = number("OUTLEN", length)?;
+    let mut message = Vec::new();
+    input
+        .read_to_end(&mut message)
+        .map_err(|error| format!("standard input: {error}"))?;
+    let mut sponge = Sponge::new(hash);
+    sponge.absorb(&message);
+    let mut stream = sponge.close();
+    let mut piece = [0; 4096];
+    while left > 0 {
+        let size = left.min(piece.len() as u64);
+        let filled = &mut piece[..size as usize];
+        stream.squeeze(filled);
+        print(output, &to_hex(filled))?;
+        left -= size;
+    }
+    print(output, "\n")
+}
+
+fn run_tables(n: &str, s: &str, r: &str, output: &mut dyn Write) -> Result<(), Refusal> {
+    let cipher = Lowmc::new(number("N", n)?, number("S", s)?, number("R", r)?)
+        .ok_or("there must be a bit in a block, and three for each S-box")?;
+    let tables = cipher.tables();
+    for table in [&tables.keys, &tables.layers, &tables.constants] {
+        let digest = shake(Hash::Shake256, table, 32);
+        print(output, &format!("{}\n", to_hex(&digest)))?;
+    }
+    Ok(())
+}
+
+fn run_encrypt(set: &str, key: &str, block: &str, output: &mut dyn Write) -> Result<(), Refusal> {
+    let set = Set::by_number(number("SET", set)?).ok_or("there is no such set")?;
+    let key = bytes("KEYHEX", key, set.width())?;
+    let block = bytes("BLOCKHEX", block, set.width())?;
+    let cipher = set.lowmc();
+    let ciphertext = cipher.encrypt(&cipher.tables(), &key, &block);
+    print(output, &format!("{}\n", to_hex(&ciphertext)))
+}
+
+/// An argument that is a number.
+fn number<N: FromStr>(name: &str, text: &str) -> Result<N, Refusal> {
+    text.parse()
+        .map_err(|_| format!("{name}: {text:?} is no number of the kind wanted"))
+}
+
+/// An argument that is a byte string of a given length.
+fn bytes(name: &str, text: &str, length: usize) -> Result<Vec<u8>, Refusal> {
+    from_hex(text)
+        .filter(|bytes| bytes.len() == length)
+        .ok_or_else(|| format!("{name}: {length} bytes in hex are wanted"))
+}
+
+fn print(output: &mut dyn Write, text: &str) -> Result<(), Refusal> {
+    output
+        .write_all(text.as_bytes())
+        .and_then(|()| output.flush())
+        .map_err(|error| format!("standard output: {error}"))
+}

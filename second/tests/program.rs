@@ -1,0 +1,112 @@
+//! The program as it is run: its answers, and what it refuses.
+
+use std::io::Write;
+use std::process::{Command, Output, Stdio};
+
+fn run(arguments: &[&str], input: &[u8]) -> Output {
+    let mut child = Command::new(env!("CARGO_BIN_EXE_second"))
+        .args(arguments)
+        .stdin(Stdio::piped())
+        .stdout(Stdio::piped())
+        .stderr(Stdio::piped())
+        .spawn()
+        .expect("the program starts");
+    let mut stdin = child.stdin.take().expect("standard input is a pipe");
+    // A program that refuses its arguments does not read its input.
+    let _ = stdin.write_all(input);
+    drop(stdin);
+    child.wait_with_output().expect("the program ends")
+}
+
+fn check_answer(arguments: &[&str], input: &[u8], expected: &str) {
+    let output = run(arguments, input);
+    assert!(output.status.success(), "{arguments:?}");
+    assert_eq!(
+        String::from_utf8_lossy(&output.stdout),
+        expected,
+        "{arguments:?}"
+    );
+}
+
+#[test]
+fn shake_prints_the_output_in_hex() {
+    check_answer(
+        &["shake", "128", "16"],
+        b"",
+        "7f9c2ba4e88f827d616045507605853e\n",
+    );
+    check_answer(&["shake", "256", "4"], &[0xa3; 200], "cd8a920e\n");
+    check_answer(&["shake", "256", "0"], b"anything", "\n");
+}
+
+/// Output of more bytes than the program hands on at once.
+#[test]
+fn shake_prints_long_output_whole() {
+    let output = second::shake::shake(second::shake::Hash::Shake128, b"long", 10_000);
+    let expected = second::hex::to_hex(&output) + "\n";
+    check_answer(&["shake", "128", "10000"], b"long", &expected);
+}
+
+#[test]
+fn encrypt_prints_the_published_ciphertext() {
+    check_answer(
+        &[
+            "encrypt",
+            "1",
+            "80000000000000000000000000000000",
+            "abff0000000000000000000000000000",
+        ],
+        b"",
+        "0e30720b9f64d5c2a7771c8c238d8f70\n",
+    );
+}
+
+#[test]
+fn tables_prints_three_digests() {
+    let tables = second::lowmc::Lowmc::new(30, 10, 3).unwrap().draw_tables();
+    let digest = |table: &[u8]| {
+        second::hex::to_hex(&second::shake::shake(
+            second::shake::Hash::Shake256,
+            table,
+            32,
+        ))
+    };
+    let expected = format!(
+        "{}\n{}\n{}\n",
+        digest(&tables.keys),
+        digest(&tables.layers),
+        digest(&tables.constants)
+    );
+    check_answer(&["tables", "30", "10", "3"], b"", &expected);
+}
+
+#[test]
+fn help_names_every_subcommand() {
+    let output = run(&["help"], b"");
+    let text = String::from_utf8_lossy(&output.stdout).into_owned();
+    for name in ["help", "shake", "tables", "encrypt"] {
+        assert!(text.contains(&format!("second {name}")), "{name}");
+    }
+}
+
+#[test]
+fn what_is_not_understood_is_refused() {
+    let key = "80000000000000000000000000000000";
+    let refused: [&[&str]; 9] = [
+        &[],
+        &["sign"],
+        &["shake", "128"],
+        &["shake", "512", "16"],
+        &["shake", "128", "-1"],
+        &["tables", "128", "43", "4"],
+        &["encrypt", "4", key, key],
+        &["encrypt", "2", key, key],
+        &["encrypt", "1", key, "xy"],
+    ];
+    for arguments in refused {
+        let output = run(arguments, b"");
+        assert_eq!(output.status.code(), Some(1), "{arguments:?}");
+        assert!(output.stdout.is_empty(), "{arguments:?}");
+        assert!(!output.stderr.is_empty(), "{arguments:?}");
+    }
+}
