@@ -7,12 +7,16 @@ use std::str::FromStr;
 
 use second::hex::{from_hex, to_hex};
 use second::lowmc::Lowmc;
-use second::sets::Set;
+use second::sets::{
+    Set, HIGHEST_BLOCK_LIMIT, LONGEST_HASH_OUTPUT, LONGEST_MESSAGE, SALT_BYTES, SETS,
+};
 use second::shake::{shake, Hash, Sponge};
 
 const HELP: &str = "\
 second help
     print this text
+second constants
+    print the numbers that a host's header has, a name and a number a line
 second shake {128|256} OUTLEN
     hash standard input and print OUTLEN bytes of output in hex
 second tables N S R
@@ -46,11 +50,64 @@ fn run(arguments: &[String], input: &mut dyn Read, output: &mut dyn Write) -> Re
     let arguments: Vec<&str> = arguments.iter().map(String::as_str).collect();
     match arguments[..] {
         ["help"] => print(output, HELP),
+        ["constants"] => run_constants(output),
         ["shake", which, length] => run_shake(which, length, input, output),
         ["tables", n, s, r] => run_tables(n, s, r, output),
         ["encrypt", set, key, block] => run_encrypt(set, key, block, output),
         _ => Err("no such subcommand with so many arguments; try: second help".into()),
     }
+}
+
+/// The refusals of 01's table, in its order, by the names of the header.
+const REFUSALS: [&str; 13] = [
+    "FINE",
+    "NO_SET",
+    "TABLE",
+    "KEY",
+    "MESSAGE",
+    "LIMIT",
+    "ROOM",
+    "PAIR",
+    "BLOCKS",
+    "WRONG_LENGTH",
+    "HEADER",
+    "PADDING",
+    "DIFFERS",
+];
+
+fn run_constants(output: &mut dyn Write) -> Result<(), Refusal> {
+    for (number, name) in REFUSALS.iter().enumerate() {
+        print(output, &format!("PICNIC_{name} {number}\n"))?;
+    }
+    for (name, number) in [
+        ("SALT", SALT_BYTES),
+        ("MESSAGE_MOST", LONGEST_MESSAGE),
+        ("HASH_MOST", LONGEST_HASH_OUTPUT),
+        ("LIMIT_MOST", HIGHEST_BLOCK_LIMIT),
+    ] {
+        print(output, &format!("PICNIC_{name} {number}\n"))?;
+    }
+    for set in &SETS {
+        // picnic-L1-FS in the paper, PICNIC_L1_FS in the header
+        let name = set.name.to_uppercase().replace('-', "_");
+        print(output, &format!("{name} {}\n", set.number))?;
+        for (what, number) in [
+            ("VALUES", set.t),
+            ("BLOCK", set.width()),
+            ("PUBLIC", set.public_key_bytes()),
+            ("DIGEST", set.digest_bytes),
+            ("KEYS", set.key_table_bytes()),
+            ("LAYERS", set.layer_table_bytes()),
+            ("CONSTANTS", set.constants_bytes()),
+            ("SEEDS", set.seeds_bytes()),
+            ("ROOM", set.room_bytes()),
+            ("SIGNATURE", set.longest_signature()),
+            ("UNPACKED", set.unpacked_bytes()),
+        ] {
+            print(output, &format!("{name}_{what} {number}\n"))?;
+        }
+    }
+    Ok(())
 }
 
 fn run_shake(
