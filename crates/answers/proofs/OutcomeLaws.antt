@@ -1,0 +1,35 @@
+-- What a call's promise settles, and the laws by which a call meets it.
+use mathlib.Core.Path.{_≡_}
+use mathlib.Core.Bool.{true, false}
+use mathlib.Core.List.{List}
+use Rattle.slices.specs.Slices.{Bytes}
+use Rattle.sets.specs.declared.Set.{Set}
+use Rattle.sets.specs.declared.Chosen.{Chosen}
+use Rattle.sets.specs.declared.Chosen.the-variants.{Known, Unknown}
+use Rattle.answers.specs.declared.Refusal.{Refusal}
+use Rattle.answers.specs.declared.Refusal.the-variants.{NoSet}
+use Rattle.answers.specs.Answers.{fine, Check, first}
+use Rattle.answers.specs.Outcome.{Outcome, refused, gives, unless, withSet, Same}
+
+pub same : Same
+unfolding Same
+same o before m n after last p q = (cc, cc)
+
+-- no such set
+pub set-unknown : (c : Chosen) (f : Set → Outcome) → c ≡ Unknown → withSet c f ≡ refused NoSet
+unfolding withSet
+set-unknown c f e = rw e
+
+pub set-known : (c : Chosen) (f : Set → Outcome) (p : Set) → c ≡ Known p → withSet c f ≡ f p
+unfolding withSet
+set-known c f p e = rw e
+
+-- a check that holds first refuses
+pub unless-refused : (ks : List Check) (vs : Bytes) (r : Refusal) → first ks ≡ r → fine r ≡ false → unless ks vs ≡ refused r
+unfolding unless
+unless-refused ks vs r e f = rw (e, f)
+
+-- where none holds the bytes are given
+pub unless-given : (ks : List Check) (vs : Bytes) (r : Refusal) → first ks ≡ r → fine r ≡ true → unless ks vs ≡ gives vs
+unfolding unless
+unless-given ks vs r e f = rw (e, f)
