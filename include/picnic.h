@@ -1,15 +1,30 @@
 /*
- * Picnic signatures, sets picnic-L1-FS, picnic-L3-FS and picnic-L5-FS: the numbers that a host needs.
+ * Picnic signatures, sets picnic-L1-FS, picnic-L3-FS and picnic-L5-FS, for C and C++ hosts.
  *
- * Each call of the library answers one 64-bit number: the refusal in its upper half, the bytes written in its lower.
- * A refusal that is not 0 has 0 in the lower half. The lengths below are in bytes.
+ * What a host must know:
  *
- * No call is exported yet; each joins this header when it is proved.
+ * - Slices. A byte slice is two arguments, a pointer and then a length in bytes. A slice of length 0 is never read or
+ *   written, so its pointer may be any.
+ * - Overlap. A slice that a call writes (a pointer to bytes that are not const) must overlap no other slice of the call.
+ *   The library cannot see this; it is the host's to keep.
+ * - Answers. Each call answers one 64-bit number: the refusal in its upper half, the bytes written in its lower. A
+ *   refusal other than PICNIC_FINE has 0 in its lower half. A call has one answer for every input: the first refusal
+ *   that holds, in rising number unless the call says otherwise.
+ * - Outputs. A call with an output fills its start and keeps what follows; a refusal keeps all of it.
+ * - A call asks nothing of the host beforehand but valid slices. It keeps no state, takes no memory, and is safe to make
+ *   from several threads on slices that are not shared.
+ *
+ * The lengths below are in bytes.
  */
 #ifndef PICNIC_H
 #define PICNIC_H
 
+#include <stddef.h>
 #include <stdint.h>
+
+#ifdef __cplusplus
+extern "C" {
+#endif
 
 /* The two halves of an answer. */
 #define PICNIC_REFUSAL(answer) ((uint32_t)((uint64_t)(answer) >> 32))
@@ -78,5 +93,29 @@
 #define PICNIC_L5_FS_ROOM 126144
 #define PICNIC_L5_FS_SIGNATURE 132856
 #define PICNIC_L5_FS_UNPACKED 133184
+
+/*
+ * Calls.
+ *
+ * | call         | refusals | writes                                           | answers            |
+ * |--------------|----------|--------------------------------------------------|--------------------|
+ * | picnic_hash  | 1 6      | the whole output: SHAKE of input, with no prefix | the output's length |
+ * | picnic_seeds | 1 3 4 6  | the seeds and the salt that a signer derives     | PICNIC_.._SEEDS    |
+ */
+
+/* SHAKE128 for set 1, SHAKE256 for sets 2 and 3. Input of any length; refusal 6 for an output longer than
+   PICNIC_HASH_MOST. */
+uint64_t picnic_hash(uint64_t set, const uint8_t *input, size_t input_length, uint8_t *output, size_t output_length);
+
+/* Seeds for signing one message, from the secret key, the public key and the message. The output holds at least
+   PICNIC_.._SEEDS bytes: the seed of round t and party j starts at (3 t + j) times the width of a seed; the salt is
+   last. */
+uint64_t picnic_seeds(uint64_t set, const uint8_t *secret, size_t secret_length, const uint8_t *public_key,
+                      size_t public_length, const uint8_t *message, size_t message_length, uint8_t *output,
+                      size_t output_length);
+
+#ifdef __cplusplus
+}
+#endif
 
 #endif

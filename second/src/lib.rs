@@ -9,9 +9,12 @@
 #![forbid(unsafe_code)]
 #![warn(missing_docs)]
 
+pub mod answers;
 pub mod bits;
+pub mod calls;
 pub mod hex;
 pub mod keccak;
 pub mod lowmc;
+pub mod noise;
 pub mod sets;
 pub mod shake;

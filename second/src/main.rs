@@ -5,6 +5,8 @@ use std::io::{self, Read, Write};
 use std::process::ExitCode;
 use std::str::FromStr;
 
+use second::answers::REFUSALS;
+use second::calls;
 use second::hex::{from_hex, to_hex};
 use second::lowmc::Lowmc;
 use second::sets::{
@@ -17,6 +19,8 @@ second help
     print this text
 second constants
     print the numbers that a host's header has, a name and a number a line
+second calls hash
+    print calls of picnic_hash with their answers, for a C host to make
 second shake {128|256} OUTLEN
     hash standard input and print OUTLEN bytes of output in hex
 second tables N S R
@@ -51,6 +55,7 @@ fn run(arguments: &[String], input: &mut dyn Read, output: &mut dyn Write) -> Re
     match arguments[..] {
         ["help"] => print(output, HELP),
         ["constants"] => run_constants(output),
+        ["calls", function] => run_calls(function, output),
         ["shake", which, length] => run_shake(which, length, input, output),
         ["tables", n, s, r] => run_tables(n, s, r, output),
         ["encrypt", set, key, block] => run_encrypt(set, key, block, output),
@@ -58,26 +63,10 @@ fn run(arguments: &[String], input: &mut dyn Read, output: &mut dyn Write) -> Re
     }
 }
 
-/// The refusals of 01's table, in its order, by the names of the header.
-const REFUSALS: [&str; 13] = [
-    "FINE",
-    "NO_SET",
-    "TABLE",
-    "KEY",
-    "MESSAGE",
-    "LIMIT",
-    "ROOM",
-    "PAIR",
-    "BLOCKS",
-    "WRONG_LENGTH",
-    "HEADER",
-    "PADDING",
-    "DIFFERS",
-];
-
 fn run_constants(output: &mut dyn Write) -> Result<(), Refusal> {
-    for (number, name) in REFUSALS.iter().enumerate() {
-        print(output, &format!("PICNIC_{name} {number}\n"))?;
+    print(output, "PICNIC_FINE 0\n")?;
+    for (refusal, name) in REFUSALS {
+        print(output, &format!("PICNIC_{name} {}\n", refusal.number()))?;
     }
     for (name, number) in [
         ("SALT", SALT_BYTES),
@@ -108,6 +97,12 @@ fn run_constants(output: &mut dyn Write) -> Result<(), Refusal> {
         }
     }
     Ok(())
+}
+
+fn run_calls(function: &str, output: &mut dyn Write) -> Result<(), Refusal> {
+    let sheet = calls::of(function)
+        .ok_or_else(|| format!("{function}: no calls are written of such a function"))?;
+    print(output, &sheet.to_string())
 }
 
 fn run_shake(

@@ -48,6 +48,12 @@ fn shake_prints_long_output_whole() {
 }
 
 #[test]
+fn calls_prints_the_sheet_of_a_function() {
+    let sheet = second::calls::of("hash").unwrap();
+    check_answer(&["calls", "hash"], b"", &sheet.to_string());
+}
+
+#[test]
 fn encrypt_prints_the_published_ciphertext() {
     check_answer(
         &[
@@ -84,7 +90,7 @@ fn tables_prints_three_digests() {
 fn help_names_every_subcommand() {
     let output = run(&["help"], b"");
     let text = String::from_utf8_lossy(&output.stdout).into_owned();
-    for name in ["help", "shake", "tables", "encrypt"] {
+    for name in ["help", "constants", "calls", "shake", "tables", "encrypt"] {
         assert!(text.contains(&format!("second {name}")), "{name}");
     }
 }
@@ -92,9 +98,11 @@ fn help_names_every_subcommand() {
 #[test]
 fn what_is_not_understood_is_refused() {
     let key = "80000000000000000000000000000000";
-    let refused: [&[&str]; 9] = [
+    let refused: [&[&str]; 11] = [
         &[],
         &["sign"],
+        &["calls"],
+        &["calls", "picnic_hash"],
         &["shake", "128"],
         &["shake", "512", "16"],
         &["shake", "128", "-1"],

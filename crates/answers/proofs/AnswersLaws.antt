@@ -1,5 +1,5 @@
 -- Laws of the refusals' numbers and of ordered checks.
-use mathlib.Core.Path.{_≡_, refl, ap}
+use mathlib.Core.Path.{_≡_, refl, sym, ap, _∙_}
 use mathlib.Core.Bool.{Bool, true, false, cond}
 use mathlib.Core.List.{List, [], _∷_, _++_}
 use Prim.Native.Nat.{ℕ, _≤_}
@@ -68,3 +68,21 @@ unfolding first
 first-append [] ys t = refl
 first-append (k ∷ xs) ys t =
     joined-one (k .holds) (fine (k .gives)) (k .gives) (first xs) (first ys) (first (xs ++ ys)) (refusing xs) refl t (first-append xs ys)
+
+-- no check of a list holds
+abbrev pub NoneHolds : List Check → Type 0
+NoneHolds [] = Unit
+NoneHolds (k ∷ ks) = (k .holds ≡ false) × NoneHolds ks
+
+passed-one : (b f : Bool) (g x : Refusal) (rest : Bool) → fine g ≡ f → T (cond f false rest) → cond b g x ≡ Fine → (b ≡ false) × (T rest × (x ≡ Fine))
+passed-one false false g x rest e t h = (refl, (t, h))
+passed-one true false g x rest e t h = no (sym e ∙ ap fine h)
+passed-one b true g x rest e t h = absurd t
+
+-- where nothing is refused no check holds
+pub none-holds : (ks : List Check) → T (refusing ks) → first ks ≡ Fine → NoneHolds ks
+unfolding first
+none-holds [] t e = tt
+none-holds (k ∷ ks) t e =
+    let x = passed-one (k .holds) (fine (k .gives)) (k .gives) (first ks) (refusing ks) refl t e in
+    (x .0, none-holds ks (x .1 .0) (x .1 .1))

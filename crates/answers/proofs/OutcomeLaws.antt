@@ -2,14 +2,16 @@
 use mathlib.Core.Path.{_≡_}
 use mathlib.Core.Bool.{true, false}
 use mathlib.Core.List.{List}
-use Rattle.slices.specs.Slices.{Bytes}
+use Prim.Native.Nat.{ℕ}
+use lib.ListN.{length}
+use Rattle.slices.specs.Slices.{Bytes, over}
 use Rattle.sets.specs.declared.Set.{Set}
 use Rattle.sets.specs.declared.Chosen.{Chosen}
 use Rattle.sets.specs.declared.Chosen.the-variants.{Known, Unknown}
 use Rattle.answers.specs.declared.Refusal.{Refusal}
-use Rattle.answers.specs.declared.Refusal.the-variants.{NoSet}
-use Rattle.answers.specs.Answers.{fine, Check, first}
-use Rattle.answers.specs.Outcome.{Outcome, refused, gives, unless, withSet, Same}
+use Rattle.answers.specs.declared.Refusal.the-variants.{Fine, NoSet}
+use Rattle.answers.specs.Answers.{fine, Check, first, answer}
+use Rattle.answers.specs.Outcome.{Outcome, refused, gives, unless, withSet, answerOf, leftBy, Promise, Same}
 
 pub same : Same
 unfolding Same
@@ -33,3 +35,15 @@ unless-refused ks vs r e f = rw (e, f)
 pub unless-given : (ks : List Check) (vs : Bytes) (r : Refusal) → first ks ≡ r → fine r ≡ true → unless ks vs ≡ gives vs
 unfolding unless
 unless-given ks vs r e f = rw (e, f)
+
+-- ---- how a call meets its promise
+
+-- it refuses, and keeps the output
+pub promise-refused : (o : Outcome) (r : Refusal) (out after : Bytes) (n : ℕ) → o ≡ refused r → n ≡ answer r 0 → after ≡ out → Promise o out n after
+unfolding answerOf leftBy
+promise-refused o r out after n e a k = record { answered = rw e a; left = rw e k }
+
+-- it gives bytes, over the start of the output
+pub promise-given : (o : Outcome) (vs out after : Bytes) (n : ℕ) → o ≡ gives vs → n ≡ answer Fine (length vs) → after ≡ over vs out → Promise o out n after
+unfolding answerOf leftBy
+promise-given o vs out after n e a k = record { answered = rw e a; left = rw e k }

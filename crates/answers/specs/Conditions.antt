@@ -22,13 +22,17 @@ blocksOther p secret block = other (w p) secret || other (w p) block
 unfoldable pub keysOther : Set → (secret public : ℕ) → Bool
 keysOther p secret public = other (w p) secret || other (publicLength p) public
 
--- the longest message, and the longest output of a hash
-abbrev pub most : ℕ
-most = 1048576
+-- the longest message
+abbrev pub messageMost : ℕ
+messageMost = 1048576
+
+-- the longest output of a hash
+abbrev pub hashMost : ℕ
+hashMost = 1048576
 
 -- 4: message empty or over 1,048,576 bytes
 unfoldable pub messageOut : ℕ → Bool
-messageOut message = eqb message 0 || ltb most message
+messageOut message = eqb message 0 || ltb messageMost message
 
 -- 5: block limit 0 or above 64
 unfoldable pub limitOut : ℕ → Bool

@@ -38,6 +38,9 @@ pub enum Refusal {
 // The longest message.
 pub const MESSAGE_MOST: usize = 1_048_576;
 
+// The longest output of a hash.
+pub const HASH_MOST: usize = 1_048_576;
+
 // The largest block limit.
 pub const LIMIT_MOST: u64 = 64;
 

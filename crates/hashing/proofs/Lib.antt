@@ -1,0 +1,3 @@
+pub mod HashingLaws
+pub mod HashCallLaws
+pub mod SeedsCallLaws

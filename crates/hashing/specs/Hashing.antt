@@ -1,0 +1,39 @@
+-- What Picnic hashes, over the SHAKE of a set: 01's section "Hashing".
+use mathlib.Core.List.{[], _∷_, _++_}
+use Prim.Native.Nat.{ℕ, _/_, _%_}
+use Rattle.slices.specs.Slices.{Bytes}
+use Rattle.sets.specs.declared.Set.{Set}
+use Rattle.sets.specs.Lengths.{seedsLength}
+use Rattle.shake.specs.Shake.{shake}
+
+-- H_i(x) hashes the byte i and then x, to one digest
+unfoldable pub h : Set → ℕ → Bytes → Bytes
+h p i x = shake (p .rate) (i ∷ x) (p .digest)
+
+-- KDF is the set's SHAKE with no prefix
+unfoldable pub kdf : Set → Bytes → ℕ → Bytes
+kdf p x n = shake (p .rate) x n
+
+-- integers beside seeds are 16-bit little endian
+unfoldable pub le16 : ℕ → Bytes
+le16 v = v % 256 ∷ v / 256 % 256 ∷ []
+
+-- derived seeds: KDF(sk, M, pk, S), the whole seeds length
+unfoldable pub derivedSeeds : Set → (secret message public : Bytes) → Bytes
+derivedSeeds p secret message public = kdf p (secret ++ (message ++ (public ++ le16 (p .seed)))) (seedsLength p)
+
+-- what a tape's digest is of: seed, salt, t, j and the length in bytes
+unfoldable pub tapeInput : (seed salt : Bytes) (t j length : ℕ) → Bytes
+tapeInput seed salt t j length = seed ++ (salt ++ (le16 t ++ (le16 j ++ le16 length)))
+
+-- tape of party j in round t: KDF(H_2(seed, salt, t, j, length))
+unfoldable pub tape : Set → (seed salt : Bytes) (t j length : ℕ) → Bytes
+tape p seed salt t j length = kdf p (h p 2 (tapeInput seed salt t j length)) length
+
+-- what a commitment hashes: H_4(seed), input share, transcript, output share
+unfoldable pub view : Set → (seed share transcript output : Bytes) → Bytes
+view p seed share transcript output = h p 4 seed ++ (share ++ (transcript ++ output))
+
+-- commitment: H_0 of that
+unfoldable pub commitment : Set → (seed share transcript output : Bytes) → Bytes
+commitment p seed share transcript output = h p 0 (view p seed share transcript output)

@@ -1,0 +1,3 @@
+pub mod LanesLaws
+pub mod LaneBitsLaws
+pub mod StateArrayLaws

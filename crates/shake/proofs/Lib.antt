@@ -1,0 +1,6 @@
+pub mod PartLaws
+pub mod OctetsLaws
+pub mod StateLaws
+pub mod SpongeLaws
+pub mod ShakeLaws
+pub mod CallerLaws

@@ -1,0 +1,2 @@
+pub mod Shake
+pub mod Sponge

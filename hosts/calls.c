@@ -1,0 +1,156 @@
+/* Makes the calls that files describe (README.md has the format) and holds what comes back against what the files say: the
+   answer, and every byte of every slice and of the guard bytes around it. */
+#include <signal.h>
+#include <stdio.h>
+#include <string.h>
+#include <unistd.h>
+
+#include "format.h"
+#include "picnic.h"
+#include "slices.h"
+
+/* An argument as the call gets it. */
+struct given {
+    uint64_t number;
+    struct slice slice;
+};
+
+/* Every function: its name, the kinds of its arguments, and the arguments as it takes them, N a number and S a slice. */
+#define FUNCTIONS(FUNCTION)                                                                                            \
+    FUNCTION(picnic_hash, "niw", N(0), S(1), S(2))
+
+#define N(i) given[i].number
+#define S(i) given[i].slice.start, given[i].slice.length
+
+#define MAKE(name, kinds, ...)                                                                                         \
+    static uint64_t make_##name(const struct given *given)                                                             \
+    {                                                                                                                  \
+        return name(__VA_ARGS__);                                                                                      \
+    }
+FUNCTIONS(MAKE)
+
+#define ENTRY(name, kinds, ...) { #name, kinds, make_##name },
+
+static const struct function {
+    const char *name;
+    const char *kinds;
+    uint64_t (*make)(const struct given *);
+} functions[] = { FUNCTIONS(ENTRY) };
+
+/* Each call is made in each of these ways: the pattern as it is or turned, so that a byte that was left out, or written
+   where none may be, is not right by chance each time; and another pointer for slices of length 0. */
+static const struct way {
+    unsigned char mask;
+    enum empty empty;
+} ways[] = { { 0x00, AT_ITS_PLACE }, { 0xff, AT_ONE }, { 0x00, NULL_POINTER } };
+
+enum { WAYS = sizeof ways / sizeof ways[0] };
+
+/* The call that is being made, for a crash to name it. */
+static const char *current = "no call";
+
+static void crashed(int number)
+{
+    static const char words[] = ": the call crashed\n";
+    (void)number;
+    if (write(STDOUT_FILENO, current, strlen(current)) < 0 || write(STDOUT_FILENO, words, sizeof words - 1) < 0)
+        _exit(4);
+    _exit(3);
+}
+
+static const struct function *find_function(const struct reader *reader, const struct call *call)
+{
+    size_t i;
+    for (i = 0; i < sizeof functions / sizeof functions[0]; i++)
+        if (strcmp(functions[i].name, call->function) == 0)
+            return &functions[i];
+    malformed(reader, "a function that the host does not know");
+    return NULL;
+}
+
+static void check_kinds(const struct reader *reader, const struct call *call, const struct function *function)
+{
+    int i;
+    if ((size_t)call->count != strlen(function->kinds))
+        malformed(reader, "the function takes another number of arguments");
+    for (i = 0; i < call->count; i++)
+        if (call->arguments[i].kind != function->kinds[i])
+            malformed(reader, "the function takes arguments of other kinds");
+}
+
+static void give(struct given *given, const struct argument *argument, const struct way *way)
+{
+    static uint64_t x = 1;
+    if (argument->kind == NUMBER)
+        given->number = argument->number;
+    else
+        place_slice(&given->slice, argument, noise(&x) % 16, way->mask, way->empty);
+}
+
+static int check_answer(const struct call *call, uint64_t answer)
+{
+    if (answer == call->answer)
+        return 1;
+    printf("%s: the answer is %lu, %lu and not %lu, %lu (refusal, length)\n", call->label,
+           (unsigned long)PICNIC_REFUSAL(answer), (unsigned long)PICNIC_LENGTH(answer),
+           (unsigned long)PICNIC_REFUSAL(call->answer), (unsigned long)PICNIC_LENGTH(call->answer));
+    return 0;
+}
+
+/* Makes the call in one way; 1 if all is as it must be. */
+static int make_call(const struct call *call, const struct function *function, const struct way *way)
+{
+    struct given given[MOST_ARGUMENTS];
+    int i, fine;
+
+    for (i = 0; i < call->count; i++)
+        give(&given[i], &call->arguments[i], way);
+    fflush(stdout);
+    current = call->label;
+    fine = check_answer(call, function->make(given));
+    for (i = 0; i < call->count; i++)
+        if (call->arguments[i].kind != NUMBER) {
+            fine &= check_slice(&given[i].slice, call->label, i + 1);
+            free_slice(&given[i].slice);
+        }
+    return fine;
+}
+
+/* Makes the call in every way, up to the first that is not fine. */
+static int try_call(const struct call *call, const struct function *function)
+{
+    int i;
+    for (i = 0; i < WAYS; i++)
+        if (!make_call(call, function, &ways[i]))
+            return 0;
+    return 1;
+}
+
+int main(int argc, char **argv)
+{
+    int i;
+    unsigned long passed = 0, failed = 0;
+
+    signal(SIGSEGV, crashed);
+    signal(SIGBUS, crashed);
+    for (i = 1; i < argc; i++) {
+        struct reader *reader = open_calls(argv[i]);
+        struct call call;
+        while (next_call(reader, &call)) {
+            const struct function *function = find_function(reader, &call);
+            check_kinds(reader, &call, function);
+            if (try_call(&call, function))
+                passed++;
+            else
+                failed++;
+            free_call(&call);
+        }
+        close_calls(reader);
+    }
+    if (passed + failed == 0) {
+        fprintf(stderr, "usage: calls FILE.., with calls in the files\n");
+        return 2;
+    }
+    printf("%lu passed, %lu failed\n", passed, failed);
+    return failed != 0;
+}

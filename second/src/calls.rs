@@ -1,0 +1,299 @@
+//! Files of calls: which calls of the library a C host is to make, and what
+//! each must answer and write. `hosts/README.md` describes the format; this
+//! module writes it, and each module below it chooses the cases of one call.
+
+pub mod hash;
+
+use std::collections::{BTreeMap, BTreeSet};
+use std::fmt;
+
+use crate::answers::{done, Refusal};
+use crate::hex::to_hex;
+use crate::noise::Noise;
+
+/// The file of calls of a function, which is named without the library's
+/// prefix.
+pub fn of(function: &str) -> Option<Sheet> {
+    match function {
+        "hash" => Some(hash::sheet()),
+        _ => None,
+    }
+}
+
+/// A piece of a byte string.
+#[derive(Clone, Debug, PartialEq, Eq)]
+pub enum Piece {
+    /// These bytes.
+    Hex(Vec<u8>),
+    /// So many zero bytes.
+    Zeros(usize),
+    /// The first bytes that follow from a seed.
+    Noise {
+        /// Where the noise starts.
+        seed: u64,
+        /// How many bytes are taken.
+        length: usize,
+    },
+    /// A whole defined byte string.
+    Named(String),
+    /// A part of a defined byte string.
+    Part {
+        /// The string's name.
+        name: String,
+        /// Where in it the part starts.
+        from: usize,
+        /// How many bytes it has.
+        length: usize,
+    },
+}
+
+/// An argument of a call.
+#[derive(Clone, Debug, PartialEq, Eq)]
+pub enum Argument {
+    /// A number.
+    Number(u64),
+    /// A slice that the call only reads.
+    Input(Vec<Piece>),
+    /// A slice that the call may write: how long it is, and what stands at
+    /// its start afterwards. The rest is as it was.
+    Written {
+        /// The length of the slice.
+        length: usize,
+        /// What stands at its start.
+        start: Vec<Piece>,
+    },
+}
+
+/// A call and its answer.
+#[derive(Clone, Debug, PartialEq, Eq)]
+pub struct Call {
+    /// The name by which a failure is reported.
+    pub label: String,
+    /// The name of the function.
+    pub function: &'static str,
+    /// The arguments in order; a slice is one argument.
+    pub arguments: Vec<Argument>,
+    /// What the call must answer.
+    pub answer: u64,
+}
+
+/// What a call with one output must do: write these bytes at the start of the
+/// output, or refuse and keep it.
+pub type Outcome = Result<Vec<u8>, Refusal>;
+
+impl Call {
+    /// A call whose last argument is its one output.
+    pub fn with_output(
+        label: String,
+        function: &'static str,
+        mut arguments: Vec<Argument>,
+        length: usize,
+        outcome: Outcome,
+    ) -> Call {
+        let (start, answer) = match outcome {
+            Ok(bytes) => {
+                let answer = done(bytes.len());
+                (vec![Piece::Hex(bytes)], answer)
+            }
+            Err(refusal) => (vec![], refusal.answer()),
+        };
+        arguments.push(Argument::Written { length, start });
+        Call {
+            label,
+            function,
+            arguments,
+            answer,
+        }
+    }
+}
+
+/// A file of calls.
+#[derive(Default)]
+pub struct Sheet {
+    defined: BTreeMap<String, Vec<u8>>,
+    calls: Vec<Call>,
+    labels: BTreeSet<String>,
+}
+
+impl Sheet {
+    /// Gives a name to a byte string that many calls use.
+    pub fn define(&mut self, name: &str, bytes: Vec<u8>) -> Piece {
+        assert!(is_word(name) && !name.contains(':'), "{name:?} is no name");
+        let old = self.defined.insert(name.into(), bytes);
+        assert!(old.is_none(), "{name} is defined twice");
+        Piece::Named(name.into())
+    }
+
+    /// Adds a call.
+    pub fn add(&mut self, call: Call) {
+        assert!(is_word(&call.label), "{:?} is no label", call.label);
+        let new = self.labels.insert(call.label.clone());
+        assert!(new, "{} is the label of two calls", call.label);
+        self.calls.push(call);
+    }
+
+    /// The calls so far.
+    pub fn calls(&self) -> &[Call] {
+        &self.calls
+    }
+
+    /// The bytes that pieces stand for.
+    pub fn bytes(&self, pieces: &[Piece]) -> Vec<u8> {
+        pieces.iter().flat_map(|piece| self.piece(piece)).collect()
+    }
+
+    fn piece(&self, piece: &Piece) -> Vec<u8> {
+        match piece {
+            Piece::Hex(bytes) => bytes.clone(),
+            Piece::Zeros(length) => vec![0; *length],
+            Piece::Noise { seed, length } => Noise::new(*seed).bytes(*length),
+            Piece::Named(name) => self.defined[name].clone(),
+            Piece::Part { name, from, length } => {
+                self.defined[name][*from..*from + *length].to_vec()
+            }
+        }
+    }
+}
+
+/// Whether a text can stand between spaces.
+fn is_word(text: &str) -> bool {
+    !text.is_empty() && text.chars().all(|c| c.is_ascii_graphic())
+}
+
+impl fmt::Display for Piece {
+    fn fmt(&self, f: &mut fmt::Formatter) -> fmt::Result {
+        match self {
+            Piece::Hex(bytes) => write!(f, "hex:{}", to_hex(bytes)),
+            Piece::Zeros(length) => write!(f, "zeros:{length}"),
+            Piece::Noise { seed, length } => write!(f, "noise:{seed:#x}:{length}"),
+            Piece::Named(name) => write!(f, "named:{name}"),
+            Piece::Part { name, from, length } => write!(f, "part:{name}:{from}:{length}"),
+        }
+    }
+}
+
+/// Pieces as they stand on a line, each behind a space.
+fn joined(pieces: &[Piece]) -> String {
+    pieces.iter().map(|piece| format!(" {piece}")).collect()
+}
+
+impl fmt::Display for Argument {
+    fn fmt(&self, f: &mut fmt::Formatter) -> fmt::Result {
+        match self {
+            Argument::Number(number) => write!(f, "number {number}"),
+            Argument::Input(pieces) => write!(f, "input{}", joined(pieces)),
+            Argument::Written { length, start } => {
+                write!(f, "written {length}{}", joined(start))
+            }
+        }
+    }
+}
+
+impl fmt::Display for Call {
+    fn fmt(&self, f: &mut fmt::Formatter) -> fmt::Result {
+        writeln!(f, "call {} {}", self.label, self.function)?;
+        for argument in &self.arguments {
+            writeln!(f, "{argument}")?;
+        }
+        writeln!(f, "answer {:#x}", self.answer)
+    }
+}
+
+impl fmt::Display for Sheet {
+    fn fmt(&self, f: &mut fmt::Formatter) -> fmt::Result {
+        for (name, bytes) in &self.defined {
+            writeln!(f, "define {name} hex:{}", to_hex(bytes))?;
+        }
+        self.calls.iter().try_for_each(|call| write!(f, "{call}"))
+    }
+}
+
+#[cfg(test)]
+mod tests {
+    use super::*;
+
+    fn labelled(label: &str) -> Call {
+        Call::with_output(label.into(), "f", vec![], 0, Ok(vec![]))
+    }
+
+    #[test]
+    fn a_sheet_is_written_as_described() {
+        let mut sheet = Sheet::default();
+        let keys = sheet.define("keys", vec![1, 2, 3]);
+        sheet.add(Call::with_output(
+            "fine".into(),
+            "f",
+            vec![Argument::Number(7), Argument::Input(vec![keys])],
+            9,
+            Ok(vec![0xab, 0xcd]),
+        ));
+        sheet.add(Call::with_output(
+            "refused".into(),
+            "g",
+            vec![Argument::Input(vec![])],
+            5,
+            Err(Refusal::Room),
+        ));
+        let text = "\
+define keys hex:010203
+call fine f
+number 7
+input named:keys
+written 9 hex:abcd
+answer 0x2
+call refused g
+input
+written 5
+answer 0x600000000
+";
+        assert_eq!(sheet.to_string(), text);
+    }
+
+    /// Each kind of piece: its text, and the bytes that it stands for.
+    #[test]
+    fn pieces_as_text_and_as_bytes() {
+        let mut sheet = Sheet::default();
+        let named = sheet.define("s", vec![1, 2, 3, 4]);
+        let part = Piece::Part {
+            name: "s".into(),
+            from: 1,
+            length: 2,
+        };
+        let noise = Piece::Noise { seed: 1, length: 2 };
+        let pieces = [
+            (Piece::Hex(vec![0, 0x1f]), "hex:001f", vec![0, 0x1f]),
+            (Piece::Zeros(3), "zeros:3", vec![0, 0, 0]),
+            (noise, "noise:0x1:2", vec![0x47, 0xab]),
+            (named, "named:s", vec![1, 2, 3, 4]),
+            (part, "part:s:1:2", vec![2, 3]),
+        ];
+        for (piece, text, bytes) in &pieces {
+            assert_eq!(piece.to_string(), *text);
+            assert_eq!(sheet.piece(piece), *bytes, "{text}");
+        }
+        let all = pieces.map(|(piece, _, _)| piece);
+        assert_eq!(sheet.bytes(&all[3..]), [1, 2, 3, 4, 2, 3]);
+    }
+
+    #[test]
+    #[should_panic(expected = "the label of two calls")]
+    fn a_label_names_one_call() {
+        let mut sheet = Sheet::default();
+        sheet.add(labelled("same"));
+        sheet.add(labelled("same"));
+    }
+
+    #[test]
+    #[should_panic(expected = "defined twice")]
+    fn a_name_stands_for_one_string() {
+        let mut sheet = Sheet::default();
+        sheet.define("same", vec![1]);
+        sheet.define("same", vec![2]);
+    }
+
+    #[test]
+    #[should_panic(expected = "is no label")]
+    fn a_label_is_one_word() {
+        Sheet::default().add(labelled("two words"));
+    }
+}
