@@ -97,15 +97,30 @@ extern "C" {
 /*
  * Calls.
  *
- * | call         | refusals | writes                                           | answers            |
- * |--------------|----------|--------------------------------------------------|--------------------|
- * | picnic_hash  | 1 6      | the whole output: SHAKE of input, with no prefix | the output's length |
- * | picnic_seeds | 1 3 4 6  | the seeds and the salt that a signer derives     | PICNIC_.._SEEDS    |
+ * | call              | refusals | writes                                           | answers             |
+ * |-------------------|----------|--------------------------------------------------|---------------------|
+ * | picnic_hash       | 1 6      | the whole output: SHAKE of input, with no prefix | the output's length |
+ * | picnic_encrypt    | 1 2 3 6  | LowMC of the block under the secret key          | PICNIC_.._BLOCK     |
+ * | picnic_public_key | 1 2 3 6  | the public key: that, then the block             | PICNIC_.._PUBLIC    |
+ * | picnic_seeds      | 1 3 4 6  | the seeds and the salt that a signer derives     | PICNIC_.._SEEDS     |
+ * | picnic_challenge  | 1 5 6 8  | the values of a challenge, one a byte            | PICNIC_.._VALUES    |
  */
 
 /* SHAKE128 for set 1, SHAKE256 for sets 2 and 3. Input of any length; refusal 6 for an output longer than
    PICNIC_HASH_MOST. */
 uint64_t picnic_hash(uint64_t set, const uint8_t *input, size_t input_length, uint8_t *output, size_t output_length);
+
+/* LowMC over lent tables: key matrices, layer matrices and round constants of exactly PICNIC_.._KEYS, PICNIC_.._LAYERS
+   and PICNIC_.._CONSTANTS bytes, each matrix row by row, bit 0 the highest bit of byte 0. The secret key and the
+   plaintext block have PICNIC_.._BLOCK bytes; the output holds at least what is written. */
+uint64_t picnic_encrypt(uint64_t set, const uint8_t *keys, size_t keys_length, const uint8_t *layers,
+                        size_t layers_length, const uint8_t *constants, size_t constants_length, const uint8_t *secret,
+                        size_t secret_length, const uint8_t *block, size_t block_length, uint8_t *output,
+                        size_t output_length);
+uint64_t picnic_public_key(uint64_t set, const uint8_t *keys, size_t keys_length, const uint8_t *layers,
+                           size_t layers_length, const uint8_t *constants, size_t constants_length,
+                           const uint8_t *secret, size_t secret_length, const uint8_t *block, size_t block_length,
+                           uint8_t *output, size_t output_length);
 
 /* Seeds for signing one message, from the secret key, the public key and the message. The output holds at least
    PICNIC_.._SEEDS bytes: the seed of round t and party j starts at (3 t + j) times the width of a seed; the salt is
@@ -113,6 +128,11 @@ uint64_t picnic_hash(uint64_t set, const uint8_t *input, size_t input_length, ui
 uint64_t picnic_seeds(uint64_t set, const uint8_t *secret, size_t secret_length, const uint8_t *public_key,
                       size_t public_length, const uint8_t *message, size_t message_length, uint8_t *output,
                       size_t output_length);
+
+/* The first PICNIC_.._VALUES values of the challenge of input, each 0, 1 or 2, from at most limit blocks, 1 to
+   PICNIC_LIMIT_MOST. Input of any length. Refusal 8 where the allowed blocks give fewer. */
+uint64_t picnic_challenge(uint64_t set, const uint8_t *input, size_t input_length, uint64_t limit, uint8_t *output,
+                          size_t output_length);
 
 #ifdef __cplusplus
 }

@@ -4,6 +4,8 @@ ghost use Rattle.sets.specs.Sets.{numbered};
 ghost use Rattle.answers.specs.Outcome.{Promise};
 ghost use Rattle.hashing.specs.HashCall.{hashed};
 ghost use Rattle.hashing.specs.SeedsCall.{seeded};
+ghost use Rattle.challenge.specs.ChallengeCall.{challenged};
+ghost use Rattle.lowmc.specs.Calls.{encryptOutcome, publicKeyOutcome};
 
 // Fills output with the SHAKE of the set, of input.
 #[no_mangle]
@@ -25,4 +27,44 @@ pub extern "C" fn picnic_seeds(
     ensures { λ r. ⌜ Promise (seeded (numbered set) (now (secret .entry)) (now (public .entry)) (now (message .entry)) (length (now (output .entry)))) (now (output .entry)) r (now (output .exit)) ⌝ }
 {
     hashing::seeds(set, secret, public, message, output)
+}
+
+// The encryption of a block under a secret key, at the start of output.
+#[no_mangle]
+pub extern "C" fn picnic_encrypt(
+    set: u64,
+    keys: &[u8],
+    layers: &[u8],
+    constants: &[u8],
+    secret: &[u8],
+    block: &[u8],
+    output: &mut [u8],
+) -> u64
+    ensures { λ r. ⌜ Promise (encryptOutcome (numbered set) (now (keys .entry)) (now (layers .entry)) (now (constants .entry)) (now (secret .entry)) (now (block .entry)) (length (now (output .entry)))) (now (output .entry)) r (now (output .exit)) ⌝ }
+{
+    lowmc::encrypt_call(set, keys, layers, constants, secret, block, output)
+}
+
+// The public key of a secret key and a plaintext block, at the start of output.
+#[no_mangle]
+pub extern "C" fn picnic_public_key(
+    set: u64,
+    keys: &[u8],
+    layers: &[u8],
+    constants: &[u8],
+    secret: &[u8],
+    block: &[u8],
+    output: &mut [u8],
+) -> u64
+    ensures { λ r. ⌜ Promise (publicKeyOutcome (numbered set) (now (keys .entry)) (now (layers .entry)) (now (constants .entry)) (now (secret .entry)) (now (block .entry)) (length (now (output .entry)))) (now (output .entry)) r (now (output .exit)) ⌝ }
+{
+    lowmc::public_key_call(set, keys, layers, constants, secret, block, output)
+}
+
+// The T values of a challenge from at most limit blocks, one a byte, at the start of output.
+#[no_mangle]
+pub extern "C" fn picnic_challenge(set: u64, input: &[u8], limit: u64, output: &mut [u8]) -> u64
+    ensures { λ r. ⌜ Promise (challenged (numbered set) (now (input .entry)) limit (length (now (output .entry)))) (now (output .entry)) r (now (output .exit)) ⌝ }
+{
+    challenge::challenge(set, input, limit, output)
 }

@@ -1,0 +1,109 @@
+-- Laws of the product: the count of ones word by word, the word that 64 rows give, and the rows' places.
+use mathlib.Core.Path.{_≡_, refl, sym, ap, ap₂, _∙_}
+use mathlib.Core.Bool.{_&&_}
+use mathlib.Core.List.{List}
+use Prim.Native.Nat.{ℕ, suc, _+_, _-_, _*_, _%_, _^_, _≤_, _<_}
+use native.Mathlib.Nat.{lt-of-le-of-lt, lt-of-lt-of-le}
+use native.Mathlib.Numerals.{add-one}
+use native.Mathlib.Omega.{arith}
+use lib.Bits.{bitAnd, bitXor, and-le-l, xor-mod}
+use lib.Count.{ones, ones-le}
+use lib.ListN.{length, getD, take, drop}
+use lib.Pow.{pow-mono}
+use Rattle.slices.specs.Slices.{Bytes}
+use Rattle.bits.specs.Bits.{_⊻_, Bits, Agree, upTo, from, parity}
+use Rattle.bits.specs.Bytes.{odd, digit, bitsOf, value}
+use Rattle.bits.specs.Words.{listBits, Holds}
+use Rattle.bits.proofs.BitsLaws.{xor-comm, parity-cong, parity-add, upTo-in, upTo-out}
+use Rattle.bits.proofs.NumberLaws.{digit-odd, odd-add, bit-xor, bit-low0, value-lt, value-cong, digit-le}
+use Rattle.bits.proofs.WordsLaws.{holds-and, holds-at, holds-value, ones-holds, zero-bits}
+use Rattle.circuit.specs.Matrices.{Matrix, rowParity, product}
+use Rattle.lowmc.specs.Lent.{row}
+use Rattle.lowmc.proofs.LentLaws.{part-long}
+
+-- ---- counts of ones
+
+-- the low bit of a sum by the low bits
+pub low-sum : (a b : ℕ) → bitXor (a % 2) (b % 2) ≡ (a + b) % 2
+low-sum a b =
+    sym (xor-mod a b 1) ∙ digit-odd (bitXor a b)
+    ∙ ap digit (sym (bit-low0 (bitXor a b)) ∙ bit-xor a b 0 ∙ ap₂ _⊻_ (bit-low0 a) (bit-low0 b) ∙ sym (odd-add a b))
+    ∙ sym (digit-odd (a + b))
+
+-- the ones in word k of a row AND a block
+module _ (s : Bytes) (ws : List ℕ) (k x : ℕ) (fits : x < 2 ^ 64) (h : Holds (from (8 * (8 * k)) (bitsOf s)) x) where
+  pub ones-few : ones (bitAnd x (getD ws k 0)) ≤ 64
+  ones-few = ones-le 64 (bitAnd x (getD ws k 0)) (lt-of-le-of-lt (and-le-l x (getD ws k 0)) fits)
+
+  pub ones-odd : odd (ones (bitAnd x (getD ws k 0))) ≡ rowParity 64 (from (64 * k) (bitsOf s)) (from (64 * k) (listBits ws))
+  unfolding rowParity
+  ones-odd =
+      ones-holds _ _ (lt-of-le-of-lt (and-le-l x (getD ws k 0)) fits)
+      (holds-and (from (64 * k) (bitsOf s)) (from (64 * k) (listBits ws)) x (getD ws k 0)
+      (λ j l. h j l ∙ ap (bitsOf s) (omega arith)) (holds-at ws k))
+
+odd-low : (a b r : ℕ) → r ≡ (a + b) % 2 → odd r ≡ odd a ⊻ odd b
+unfolding odd
+odd-low a b r e = ap odd e ∙ (let d : (a + b) % 2 % 2 ≡ (a + b) % 2 = omega arith in rw d) ∙ odd-add a b
+
+-- the ones of m bits and of n more
+pub odd-join : (f g : Bits) (m n t o r : ℕ) → odd t ≡ rowParity m f g → odd o ≡ rowParity n (from m f) (from m g) → r ≡ (t + o) % 2
+    → odd r ≡ rowParity (m + n) f g
+unfolding rowParity
+odd-join f g m n t o r et eo er =
+    odd-low t o r er ∙ ap₂ _⊻_ et eo ∙ xor-comm _ _ ∙ sym (parity-add m n (λ j. f j && g j))
+
+-- the first word
+pub odd-first : (f g : Bits) (o : ℕ) → odd o ≡ rowParity 64 (from (64 * 0) f) (from (64 * 0) g) → odd o ≡ rowParity 64 f g
+unfolding rowParity
+odd-first f g o e = e ∙ parity-cong 64 _ _ (λ j h. let z : 0 + j ≡ j = omega arith in ap (λ (i : ℕ). f i && g i) z)
+
+-- a word behind others
+pub odd-behind : (f g : Bits) (m n k o : ℕ) → m + n ≡ k → odd o ≡ rowParity 64 (from k f) (from k g)
+    → odd o ≡ rowParity 64 (from n (from m f)) (from n (from m g))
+unfolding rowParity
+odd-behind f g m n k o d e = e ∙ parity-cong 64 _ _ (λ j h. let z : k + j ≡ m + (n + j) = omega arith in ap (λ (i : ℕ). f i && g i) z)
+
+-- the low bit itself
+pub low-digit : (f g : Bits) (m n a r : ℕ) → r ≡ a % 2 → odd r ≡ rowParity m f g → m ≡ n → r ≡ digit (rowParity n f g)
+low-digit f g m n a r e o d =
+    let l : r ≡ r % 2 = omega arith in
+    l ∙ digit-odd r ∙ ap digit (o ∙ ap (λ (k : ℕ). rowParity k f g) d)
+
+-- ---- the word that 64 rows give
+
+-- the parity that is computed of a lent row
+pub row-digit : (m : Bytes) (g w : ℕ) (x : Bits) (r : ℕ) → g * w + w ≤ length m
+    → r ≡ digit (rowParity (8 * length (take (g * w + w - g * w) (drop (g * w) m))) (bitsOf (take (g * w + w - g * w) (drop (g * w) m))) x)
+    → r ≡ digit (rowParity (8 * w) (row w m g) x)
+unfolding row
+row-digit m g w x r l h =
+    let d : g * w + w - g * w ≡ w = omega arith in
+    h ∙ ap₂ (λ (n k : ℕ). digit (rowParity (8 * n) (bitsOf (take k (drop (g * w) m))) x)) (part-long m (g * w) w l) d
+
+pub value-more : (f : Bits) (j x y : ℕ) → x ≡ value j f → y ≡ digit (f j) → x * 2 + y ≡ value (j + 1) f
+unfolding value
+value-more f j x y e d = ap₂ (λ (u v : ℕ). u * 2 + v) e d ∙ ap (λ (u : ℕ). value u f) (sym (add-one j))
+
+-- a number of fewer than 64 bits leaves room for one more
+pub value-space : (f : Bits) (j x : ℕ) → x ≡ value j f → j < 64 → x * 2 + 1 < 2 ^ 64
+value-space f j x e h =
+    let l : value j f < 2 ^ 63 = lt-of-lt-of-le (value-lt j f) (pow-mono {j = 63} (omega arith)) in
+    omega arith
+
+pub value-fits : (f : Bits) (j x y : ℕ) → x ≡ value j f → y ≡ digit (f j) → j < 64 → x * 2 + y < 2 ^ 64
+value-fits f j x y e d h = omega (arith, value-space f j x e h, digit-le (f j))
+
+pub value-whole : (f : Bits) (j x : ℕ) → x ≡ value j f → j ≡ 64 → Holds f x
+value-whole f j x e d = holds-value f x (e ∙ ap (λ (k : ℕ). value k f) d)
+
+-- ---- 64 bits of a product
+
+pub word-of-rows : (n : ℕ) (M : Matrix) (x : Bits) (g y : ℕ) → g + 64 ≤ n → Holds (from g (λ i. rowParity n (M i) x)) y
+    → Holds (from g (product n M x)) y
+unfolding product
+word-of-rows n M x g y l h i b = h i b ∙ sym (upTo-in n _ (g + i) (omega arith))
+
+pub no-rows : (n : ℕ) (M : Matrix) (x : Bits) (g : ℕ) → n ≤ g → Holds (from g (product n M x)) 0
+unfolding product
+no-rows n M x g l i b = zero-bits i ∙ sym (upTo-out n _ (g + i) (omega arith))

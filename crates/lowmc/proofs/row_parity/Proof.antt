@@ -1,0 +1,84 @@
+-- `lowmc::row_parity` meets its contract.
+use native.Mathlib.Omega.{arith}
+use mathlib.Core.Path.{refl}
+use Prim.Native.Nat.{_*_}
+use lib.ListN.{length}
+use Rattle.bits.specs.Bits.{Bits, from}
+use Rattle.bits.specs.Bytes.{bitsOf}
+use Rattle.bits.specs.Words.{blockBits}
+use Rattle.lowmc.proofs.ProductLaws.{odd-first, odd-join, odd-behind, low-digit}
+use borrow.Author.Needs.{needs}
+use Rattle.lowmc.proofs.row_parity.Statement.{statement}
+use Rattle.lowmc.proofs.row_parity.Tie as tie
+
+ones-requires : tie.Need-ones-requires
+ones-requires c κs = search needs
+
+ones-requires-2 : tie.Need-ones-requires-2
+ones-requires-2 c κs = search needs
+
+low-bit-requires : tie.Need-low-bit-requires
+low-bit-requires c κs = search needs
+
+returns : tie.Need-returns
+returns c =
+    let a = c .before .before .before .before .before .args in
+    let f : Bits = bitsOf (a .row .now) in
+    let g : Bits = blockBits (a .v) in
+    let two = odd-join f g 64 64 _ _ _ (odd-first f g _ (c .before .before .before .ones .ensures .1)) (c .before .before .ones2 .ensures .1) (c .before .low-bit .ensures) in
+    low-digit f g 128 (8 * length (a .row .now)) _ _ (c .before .low-bit .ensures) two (omega arith)
+
+ones-requires-3 : tie.Need-ones-requires-3
+ones-requires-3 c κs = search needs
+
+low-bit-requires-2 : tie.Need-low-bit-requires-2
+low-bit-requires-2 c κs = search needs
+
+returns-2 : tie.Need-returns-2
+returns-2 c =
+    let a = c .before .before .before .before .before .before .before .before .args in
+    let f : Bits = bitsOf (a .row .now) in
+    let g : Bits = blockBits (a .v) in
+    let two = odd-join f g 64 64 _ _ _ (odd-first f g _ (c .before .before .before .before .before .before .ones .ensures .1)) (c .before .before .before .before .before .ones2 .ensures .1) (c .before .before .before .before .low-bit .ensures) in
+    let three = odd-join f g 128 64 _ _ _ two (c .before .ones3 .ensures .1) (c .low-bit2 .ensures) in
+    low-digit f g 192 (8 * length (a .row .now)) _ _ (c .low-bit2 .ensures) three (omega arith)
+
+ones-requires-4 : tie.Need-ones-requires-4
+ones-requires-4 c κs = search needs
+
+ones-requires-5 : tie.Need-ones-requires-5
+ones-requires-5 c κs = search needs
+
+low-bit-requires-3 : tie.Need-low-bit-requires-3
+low-bit-requires-3 c κs = search needs
+
+low-bit-requires-4 : tie.Need-low-bit-requires-4
+low-bit-requires-4 c κs = search needs
+
+returns-3 : tie.Need-returns-3
+returns-3 c =
+    let a = c .before .before .before .before .before .before .before .before .before .before .args in
+    let f : Bits = bitsOf (a .row .now) in
+    let g : Bits = blockBits (a .v) in
+    let two = odd-join f g 64 64 _ _ _ (odd-first f g _ (c .before .before .before .before .before .before .before .before .ones .ensures .1)) (c .before .before .before .before .before .before .before .ones2 .ensures .1) (c .before .before .before .before .before .before .low-bit .ensures) in
+    let last = odd-behind f g 128 64 192 _ refl (c .before .before .ones5 .ensures .1) in
+    let more = odd-join (from 128 f) (from 128 g) 64 64 _ _ _ (c .before .before .before .ones4 .ensures .1) last (c .before .low-bit3 .ensures) in
+    let four = odd-join f g 128 128 _ _ _ two more (c .low-bit4 .ensures) in
+    low-digit f g 256 (8 * length (a .row .now)) _ _ (c .low-bit4 .ensures) four (omega arith)
+
+pub row-parity-spec : {M : Type 1} → statement M
+row-parity-spec =
+    tie.close
+    (tie.spec
+    ones-requires
+    ones-requires-2
+    low-bit-requires
+    returns
+    ones-requires-3
+    low-bit-requires-2
+    returns-2
+    ones-requires-4
+    ones-requires-5
+    low-bit-requires-3
+    low-bit-requires-4
+    returns-3)

@@ -1,0 +1,4 @@
+pub mod Lent
+pub mod Encrypted
+pub mod Inner
+pub mod Calls
