@@ -6,9 +6,8 @@ use native.Mathlib.Omega.{arith}
 use native.Mathlib.Numerals.{add-one}
 use lib.Dec.{ltb, ltb→lt, T}
 use borrow.Author.Tests.{lt-ltb, le-ltb}
-use Rattle.bits.specs.Bits.{_⊻_, Bits, _⊕_, Agree}
+use Rattle.bits.specs.Bits.{_⊻_, Bits, Agree}
 use Rattle.bits.proofs.BitsLaws.{xor-false, ⊕-at}
-use Rattle.circuit.specs.Matrices.{product}
 use Rattle.circuit.specs.Lowmc.{Cipher, Three, sbox, threeAt, inThree, placed, sboxes, start, step, stateAfter, encryption}
 use Rattle.circuit.proofs.MatricesLaws.{product-past}
 

@@ -3,7 +3,7 @@ use mathlib.Core.Path.{_≡_, ap, _∙_, fun-ext}
 use mathlib.Core.Bool.{Bool, false, _&&_}
 use Prim.Native.Nat.{ℕ, _≤_}
 use lib.Dec.{ltb}
-use Rattle.bits.specs.Bits.{_⊻_, Bits, _⊕_, Agree, upTo, parity}
+use Rattle.bits.specs.Bits.{_⊻_, Bits, _⊕_, Agree, upTo}
 use Rattle.bits.proofs.BitsLaws.{and-xor, parity-xor, parity-cong, upTo-out, upTo-cong}
 use Rattle.circuit.specs.Matrices.{Matrix, rowParity, product}
 

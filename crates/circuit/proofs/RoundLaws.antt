@@ -16,36 +16,9 @@ use Rattle.circuit.specs.Round.{Party, party0, party1, party2, next, gat
 use Rattle.circuit.specs.RoundTheorems.{xor3, SameGates, OutputsEncrypt}
 use Rattle.circuit.proofs.MatricesLaws.{product-xor}
 use Rattle.circuit.proofs.LowmcLaws.{inThree-xor}
-use Rattle.circuit.proofs.GatesLaws.{products, sboxesBy-in, sboxesBy-past, sboxes-are}
+use Rattle.circuit.proofs.GatesLaws.{left-xor, right-xor, products, sboxesBy-xor, sboxesBy-in, sboxesBy-past, sboxes-are}
 
 -- ---- what is linear in the shares
-
-left-xor : (x y : Bits) (g : ℕ) → leftFactor (x ⊕ y) g ≡ leftFactor x g ⊻ leftFactor y g
-unfolding leftFactor _⊕_
-left-xor x y g = inThree-xor _ _ _ _ _ _ (g % 3)
-
-right-xor : (x y : Bits) (g : ℕ) → rightFactor (x ⊕ y) g ≡ rightFactor x g ⊻ rightFactor y g
-unfolding rightFactor _⊕_
-right-xor x y g = inThree-xor _ _ _ _ _ _ (g % 3)
-
--- the bits that an S-box gives, of two states and what their gates gave
-three-xor : (a b c p q r a′ b′ c′ p′ q′ r′ : Bool) (k : ℕ)
-    → inThree ((a ⊻ a′) ⊻ (b ⊻ b′) ⊻ (c ⊻ c′) ⊻ (p ⊻ p′)) ((a ⊻ a′) ⊻ (b ⊻ b′) ⊻ (r ⊻ r′)) ((a ⊻ a′) ⊻ (q ⊻ q′)) k
-    ≡ inThree (a ⊻ b ⊻ c ⊻ p) (a ⊻ b ⊻ r) (a ⊻ q) k ⊻ inThree (a′ ⊻ b′ ⊻ c′ ⊻ p′) (a′ ⊻ b′ ⊻ r′) (a′ ⊻ q′) k
-unfolding inThree
-three-xor a b c p q r a′ b′ c′ p′ q′ r′ zero = simp xor-rules
-three-xor a b c p q r a′ b′ c′ p′ q′ r′ (suc zero) = simp xor-rules
-three-xor a b c p q r a′ b′ c′ p′ q′ r′ (suc (suc k)) = simp xor-rules
-
-sboxesBy-xor : (s : ℕ) (x y t u : Bits) → sboxesBy s (x ⊕ y) (t ⊕ u) ≡ sboxesBy s x t ⊕ sboxesBy s y u
-unfolding _⊕_
-sboxesBy-xor s x y t u = fun-ext λ i.
-    ⊎-elim
-    (λ (l : i < 3 * s).
-    sboxesBy-in s (x ⊕ y) (t ⊕ u) i l
-    ∙ (three-xor _ _ _ _ _ _ _ _ _ _ _ _ (i % 3) ∙ sym (ap₂ _⊻_ (sboxesBy-in s x t i l) (sboxesBy-in s y u i l))))
-    (λ (l : 3 * s ≤ i). sboxesBy-past s (x ⊕ y) (t ⊕ u) i l ∙ sym (ap₂ _⊻_ (sboxesBy-past s x t i l) (sboxesBy-past s y u i l)))
-    (below i (3 * s))
 
 module _ (C : Cipher) where
   start-xor : (k k′ c c′ : Bits) → start C (k ⊕ k′) (c ⊕ c′) ≡ start C k c ⊕ start C k′ c′

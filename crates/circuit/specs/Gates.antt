@@ -22,7 +22,7 @@ sboxBy x ab bc ca = record {
   c = x .a ⊻ x .b ⊻ x .c ⊻ ab;
 }
 
--- the s S-boxes, where t has what the gates gave
+-- the s S-boxes, where t has what the gates gave, each in its place
 unfoldable pub sboxesBy : ℕ → (x t : Bits) → Bits
 sboxesBy s x t i =
     let j = 3 * (i / 3) in

@@ -32,13 +32,13 @@ sbox x = record {
 abbrev pub threeAt : Bits → ℕ → Three
 threeAt x i = record { a = x (i + 2); b = x (i + 1); c = x i }
 
--- what stands at place 0, 1, 2 of three
+-- the bit at place 0, 1 or 2 of three
 unfoldable pub inThree : (at0 at1 at2 : Bool) → ℕ → Bool
 inThree x y z zero = x
 inThree x y z (suc zero) = y
 inThree x y z (suc (suc i)) = z
 
--- three bits in their places
+-- three bits in their places: c, b, a
 abbrev pub placed : Three → ℕ → Bool
 placed t = inThree (t .c) (t .b) (t .a)
 
@@ -51,7 +51,7 @@ module _ (C : Cipher) (key : Bits) where
   unfoldable pub start : Bits → Bits
   start p = product (C .n) (C .Kmatrix 0) key ⊕ p
 
-  -- S-boxes, Lmatrix[i], roundconstant[i], and Kmatrix[i+1]·key
+  -- round i+1: S-boxes, Lmatrix[i], roundconstant[i], and Kmatrix[i+1]·key
   unfoldable pub step : ℕ → Bits → Bits
   step i x = product (C .n) (C .Lmatrix i) (sboxes (C .s) x) ⊕ C .roundconstant i ⊕ product (C .n) (C .Kmatrix (i + 1)) key
 

@@ -6,7 +6,7 @@ use native.Mathlib.Omega.{arith}
 use lib.ListN.{length, length-append}
 use borrow.Author.Tests.{ltb-false}
 use Rattle.slices.specs.Slices.{Bytes}
-use Rattle.bits.proofs.BytesLaws.{length-bytesOf}
+use Rattle.lowmc.proofs.EncryptedLaws.{length-encrypted}
 use Rattle.sets.specs.declared.Set.{Set}
 use Rattle.sets.specs.declared.Chosen.{Chosen}
 use Rattle.sets.specs.declared.Chosen.the-variants.{Known, Unknown}
@@ -85,10 +85,6 @@ module _ (c : Chosen) (keys layers constants secret block : Bytes) (n : ℕ) whe
     public-given q f = set-known c _ p e ∙ unless-given _ (publicKey p keys layers constants secret block) r (rw (← q) (sym is)) f
 
 -- ---- how long what is given is
-
-pub length-encrypted : (p : Set) (keys layers constants secret block : Bytes) → length (encrypted p keys layers constants secret block) ≡ w p
-unfolding encrypted
-length-encrypted p keys layers constants secret block = length-bytesOf (p .n) _
 
 pub length-public : (p : Set) (keys layers constants secret block : Bytes) → length block ≡ w p
     → length (publicKey p keys layers constants secret block) ≡ publicLength p

@@ -1,15 +1,14 @@
 -- Laws of the encryption's code: a round and the start as the definitions have them, and the bytes that are stored.
 use mathlib.Core.Path.{_≡_, refl, sym, ap, ap₂, _∙_}
-use mathlib.Core.Bool.{false}
 use mathlib.Core.List.{_++_}
-use Prim.Native.Nat.{ℕ, _+_, _-_, _*_, _≤_}
+use Prim.Native.Nat.{ℕ, _+_, _-_, _≤_}
 use native.Mathlib.Omega.{arith}
 use lib.ListN.{length, take, drop}
 use lib.Seq.{length-take-le}
 use Rattle.slices.specs.Slices.{Bytes, put, over}
 use Rattle.slices.proofs.SliceLaws.{over-put}
 use Rattle.bits.specs.Bits.{Bits, _⊕_}
-use Rattle.bits.specs.Bytes.{bitsOf, width, bytes, bytesOf}
+use Rattle.bits.specs.Bytes.{bitsOf, bytes, bytesOf}
 use Rattle.bits.proofs.BitsLaws.{upTo-is}
 use Rattle.bits.proofs.BytesLaws.{bits-past, length-bytes, length-bytesOf}
 use Rattle.sets.specs.declared.Set.{Set}
@@ -41,7 +40,7 @@ module _ (p : Set) (keys layers constants : Bytes) where
   step-of i key x y c r ey ec er =
       er ∙ ap₂ (λ (u v : Bits). product (p .n) (matrixOf (p .n) layers i) u ⊕ v ⊕ product (p .n) (matrixOf (p .n) keys (i + 1)) key) ey ec
 
-  -- what is stored of it
+  -- the bytes that are stored of an encryption
   pub stored-of : IsSet p → (secret block : Bytes) → length block ≡ w p → (key plain x : Bits) → key ≡ bitsOf secret → plain ≡ bitsOf block
       → x ≡ encryption (cipherOf p keys layers constants) key plain
       → bytes (w p) x ≡ encrypted p keys layers constants secret block
@@ -51,7 +50,7 @@ module _ (p : Set) (keys layers constants : Bytes) where
       ap (bytes (w p))
       (ex ∙ (ap₂ (encryption (cipherOf p keys layers constants)) ek ep
       ∙ upTo-is (p .n) _ _ (λ i l. refl)
-      (encryption-past (cipherOf p keys layers constants) (bitsOf secret) (bitsOf block) (constant-past (p .n) constants d)
+      (encryption-past (cipherOf p keys layers constants) (bitsOf secret) (bitsOf block) (constant-past h constants)
       (λ i l. bits-past block i (omega arith)))))
 
 -- what stands in a slice whose first bytes, as many as the code's width x, are stored
@@ -64,12 +63,16 @@ start-written out ys vs x w b e h ey ev =
     let l : length vs ≡ x - 0 = ap length (sym ev) ∙ (length-bytes w b ∙ sym d) in
     ap₂ (λ (u : Bytes) (k : ℕ). u ++ drop k out) (ey ∙ (ap (λ (k : ℕ). bytes k b) n ∙ ev)) (sym l)
 
+pub length-encrypted : (p : Set) (keys layers constants secret block : Bytes) → length (encrypted p keys layers constants secret block) ≡ w p
+unfolding encrypted
+length-encrypted p keys layers constants secret block = length-bytesOf (p .n) _
+
 -- a public key: the encryption, and the block behind it
 pub key-written : (p : Set) (keys layers constants secret block out mid last : Bytes) (x : ℕ) → x ≡ w p → length block ≡ w p → publicLength p ≤ length out
     → mid ≡ over (encrypted p keys layers constants secret block) out → last ≡ put mid x block
     → last ≡ over (publicKey p keys layers constants secret block) out
-unfolding publicKey encrypted
+unfolding publicKey
 key-written p keys layers constants secret block out mid last x e n h em el =
-    let l : length (encrypted p keys layers constants secret block) ≡ w p = length-bytesOf (p .n) _ in
+    let l = length-encrypted p keys layers constants secret block in
     el ∙ (ap₂ (λ (m : Bytes) (k : ℕ). put m k block) em (e ∙ sym l)
     ∙ over-put (encrypted p keys layers constants secret block) block out (omega arith))

@@ -10,9 +10,9 @@ use borrow.Author.Tests.{lt-ltb, le-ltb, eq-eqb, ne-eqb}
 use Rattle.bits.specs.Bits.{_⊻_, Bits, _⊕_, Agree, upTo, from}
 use Rattle.bits.specs.Bytes.{bit, odd}
 use Rattle.bits.specs.Words.{wordBits, Holds}
-use Rattle.bits.proofs.BitsLaws.{upTo-in, upTo-out, upTo-cong, xor-false, false-xor, and-xor}
+use Rattle.bits.proofs.BitsLaws.{upTo-cong, xor-false, false-xor, and-xor}
 use Rattle.bits.proofs.NumberLaws.{below}
-use Rattle.bits.proofs.WordsLaws.{holds-self, holds-and, holds-xor, holds-shr, holds-shl, back, back-at, back-out, ahead, ahead-at, ahead-out, word-out, keep-top}
+use Rattle.bits.proofs.WordsLaws.{holds-self, holds-and, holds-xor, holds-shr, holds-shl, back, back-at, back-out, ahead-at, ahead-out, word-out, keep-top}
 use Rattle.bits.proofs.Computed.{computed}
 use Rattle.circuit.specs.Lowmc.{inThree}
 use Rattle.circuit.proofs.LowmcLaws.{by-place, group, group0}
@@ -20,6 +20,7 @@ use Rattle.lowmc.specs.Inner.{InWord, starts, lane}
 
 -- ---- the mask
 
+-- every third place of a word
 abbrev pub thirds : ℕ
 thirds = 0x9249_2492_4924_9249
 

@@ -12,8 +12,8 @@ use Rattle.bits.specs.Bytes.{bitsOf, width}
 use Rattle.bits.proofs.BytesLaws.{bits-past}
 use Rattle.sets.specs.declared.Set.{Set}
 use Rattle.sets.specs.Sets.{IsSet}
-use Rattle.sets.specs.Lengths.{w}
-use Rattle.sets.proofs.Each.{each, most}
+use Rattle.sets.specs.Lengths.{w, constantsLength}
+use Rattle.sets.proofs.Each.{each}
 use Rattle.circuit.specs.Matrices.{product}
 use Rattle.lowmc.specs.Lent.{row, matrix, matrixOf, constantOf}
 use Rattle.lowmc.specs.Inner.{Words, InWord}
@@ -59,22 +59,12 @@ row-room g h w l = rw (row-end g w) (mul-le-mul-right {m = g + 1} {n = h} w (ome
 pub matrix-end : (k n w : ℕ) → k * n * w + n * w ≡ (k + 1) * n * w
 matrix-end k n w = sym (ap (λ (m : ℕ). m * w) (sym (row-end k n)) ∙ add-mul (k * n) n w)
 
--- places at the width x that the code computes
-module _ (x w k : ℕ) (e : x ≡ w) (len : ℕ) where
-  -- row k in r rows
-  pub row-in : (r : ℕ) → k < r → len ≡ r * w → k * x + x ≤ len
-  row-in r h d = rw (e, d) (row-room k r w h)
-
-  -- matrix k in a table
-  pub matrix-in : (n : ℕ) → (k + 1) * n * w ≤ len → k * n * x + n * x ≤ len
-  matrix-in n h = rw (e, matrix-end k n w) h
-
 -- a matrix lies in a table that holds more
 pub matrix-room : (k r n w : ℕ) → k < r → (k + 1) * n * w ≤ r * n * w
 matrix-room k r n w l =
     mul-le-mul-right {m = (k + 1) * n} {n = r * n} w (mul-le-mul-right {m = k + 1} {n = r} n (omega arith))
 
--- ---- lent parts
+-- ---- lent parts, at the width x that the code computes
 
 -- a part from where it begins to where it ends
 pub part-long : (l : Bytes) (at n : ℕ) → at + n ≤ length l → length (take (at + n - at) (drop at l)) ≡ n
@@ -82,25 +72,54 @@ part-long l at n h =
     let d : at + n - at ≡ n = omega arith in
     rw d (length-take-le n (drop at l) (omega (arith, length-drop at l)))
 
--- the product that is computed of a lent matrix
-pub product-of : (n x k : ℕ) (l : Bytes) (v r : Bits) → x ≡ width n → n ≡ 8 * width n
-    → r ≡ product (8 * x) (row x (take (k * n * x + n * x - k * n * x) (drop (k * n * x) l))) v
-    → r ≡ product n (matrixOf n l k) v
-unfolding matrixOf matrix
-product-of n x k l v r e d h =
-    let m : k * n * width n + n * width n - k * n * width n ≡ n * width n = omega arith in
-    h ∙ ap (λ (y : ℕ). product (8 * y) (row y (take (k * n * y + n * y - k * n * y) (drop (k * n * y) l))) v) e
-    ∙ ap₂ (λ (a b : ℕ). product a (row (width n) (take b (drop (k * n * width n) l))) v) (sym d) m
+-- matrix k of a table
+module _ {p : Set} (h : IsSet p) (x : ℕ) (e : x ≡ w p) (k : ℕ) (l : Bytes) (room : (k + 1) * p .n * w p ≤ length l) where
+  pub matrix-in : k * p .n * x + p .n * x ≤ length l
+  matrix-in = rw (e, matrix-end k (p .n) (w p)) room
 
--- the constant that is loaded from its lent part
-pub constant-of : (n x i : ℕ) (l : Bytes) (r : Bits) → x ≡ width n → r ≡ bitsOf (take (i * x + x - i * x) (drop (i * x) l)) → r ≡ constantOf n l i
-unfolding constantOf row
-constant-of n x i l r e h =
-    let m : i * width n + width n - i * width n ≡ width n = omega arith in
-    h ∙ ap (λ (y : ℕ). bitsOf (take (i * y + y - i * y) (drop (i * y) l))) e
-    ∙ ap (λ (a : ℕ). bitsOf (take a (drop (i * width n) l))) m
+  -- the number of its first row
+  pub first-in : k * p .n ≤ length l
+  first-in = omega (arith, matrix-in, words h .least, le-mul-of-pos-right {m = x} (k * p .n) (omega (arith, words h .least)))
+
+  pub rows-in : Words x × (length (take (k * p .n * x + p .n * x - k * p .n * x) (drop (k * p .n * x) l)) ≡ 8 * x * x)
+  rows-in =
+      let n : p .n ≡ 8 * x = whole h ∙ ap (λ (y : ℕ). 8 * y) (sym e) in
+      (rw e (words h), part-long l (k * p .n * x) (p .n * x) matrix-in ∙ ap (λ (y : ℕ). y * x) n)
+
+  -- the product that is computed of it
+  pub product-of : (v r : Bits)
+      → r ≡ product (8 * x) (row x (take (k * p .n * x + p .n * x - k * p .n * x) (drop (k * p .n * x) l))) v
+      → r ≡ product (p .n) (matrixOf (p .n) l k) v
+  unfolding matrixOf matrix
+  product-of v r q =
+      let m : k * p .n * w p + p .n * w p - k * p .n * w p ≡ p .n * w p = omega arith in
+      q ∙ (ap (λ (y : ℕ). product (8 * y) (row y (take (k * p .n * y + p .n * y - k * p .n * y) (drop (k * p .n * y) l))) v) e
+      ∙ ap₂ (λ (a b : ℕ). product a (row (w p) (take b (drop (k * p .n * w p) l))) v) (sym (whole h)) m)
+
+-- constant i
+module _ {p : Set} (h : IsSet p) (x : ℕ) (e : x ≡ w p) (i : ℕ) (l : Bytes) (long : length l ≡ constantsLength p) (less : i < p .r) where
+  pub constant-in : i * x + x ≤ length l
+  constant-in = rw (e, long) (row-room i (p .r) (w p) less)
+
+  pub constant-small : length (take (i * x + x - i * x) (drop (i * x) l)) ≤ 32
+  constant-small = omega (arith, part-long l (i * x) x constant-in, words h .most)
+
+  -- what is loaded of it
+  pub constant-of : (r : Bits) → r ≡ bitsOf (take (i * x + x - i * x) (drop (i * x) l)) → r ≡ constantOf (p .n) l i
+  unfolding constantOf row
+  constant-of r q =
+      let m : i * w p + w p - i * w p ≡ w p = omega arith in
+      q ∙ (ap (λ (y : ℕ). bitsOf (take (i * y + y - i * y) (drop (i * y) l))) e ∙ ap (λ (a : ℕ). bitsOf (take a (drop (i * w p) l))) m)
 
 -- a constant has n bits
-pub constant-past : (n : ℕ) (l : Bytes) → n ≡ 8 * width n → (k i : ℕ) → n ≤ i → constantOf n l k i ≡ false
+pub constant-past : {p : Set} (h : IsSet p) (l : Bytes) (k i : ℕ) → p .n ≤ i → constantOf (p .n) l k i ≡ false
 unfolding constantOf row
-constant-past n l d k i h = bits-past _ i (omega (arith, length-take (width n) (drop (k * width n) l)))
+constant-past {p} h l k i b = bits-past _ i (omega (arith, whole h, length-take (w p) (drop (k * w p) l)))
+
+-- a block is short enough to load
+pub block-small : {p : Set} (h : IsSet p) (l : Bytes) → length l ≡ w p → length l ≤ 32
+block-small h l e = omega (arith, words h .most)
+
+-- and its place in an output short enough to store
+pub output-small : {p : Set} (h : IsSet p) (x : ℕ) (l : Bytes) → x ≡ w p → length (take (x - 0) l) ≤ 32
+output-small h x l e = omega (arith, length-take (x - 0) l, words h .most)

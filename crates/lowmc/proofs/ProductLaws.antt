@@ -2,20 +2,20 @@
 use mathlib.Core.Path.{_≡_, refl, sym, ap, ap₂, _∙_}
 use mathlib.Core.Bool.{_&&_}
 use mathlib.Core.List.{List}
-use Prim.Native.Nat.{ℕ, suc, _+_, _-_, _*_, _%_, _^_, _≤_, _<_}
+use Prim.Native.Nat.{ℕ, _+_, _-_, _*_, _%_, _^_, _≤_, _<_}
 use native.Mathlib.Nat.{lt-of-le-of-lt, lt-of-lt-of-le}
 use native.Mathlib.Numerals.{add-one}
 use native.Mathlib.Omega.{arith}
 use lib.Bits.{bitAnd, bitXor, and-le-l, xor-mod}
-use lib.Count.{ones, ones-le}
+use lib.Count.{ones}
 use lib.ListN.{length, getD, take, drop}
 use lib.Pow.{pow-mono}
 use Rattle.slices.specs.Slices.{Bytes}
-use Rattle.bits.specs.Bits.{_⊻_, Bits, Agree, upTo, from, parity}
+use Rattle.bits.specs.Bits.{_⊻_, Bits, from}
 use Rattle.bits.specs.Bytes.{odd, digit, bitsOf, value}
 use Rattle.bits.specs.Words.{listBits, Holds}
 use Rattle.bits.proofs.BitsLaws.{xor-comm, parity-cong, parity-add, upTo-in, upTo-out}
-use Rattle.bits.proofs.NumberLaws.{digit-odd, odd-add, bit-xor, bit-low0, value-lt, value-cong, digit-le}
+use Rattle.bits.proofs.NumberLaws.{digit-odd, odd-add, bit-xor, bit-low0, value-lt, digit-le}
 use Rattle.bits.proofs.WordsLaws.{holds-and, holds-at, holds-value, ones-holds, zero-bits}
 use Rattle.circuit.specs.Matrices.{Matrix, rowParity, product}
 use Rattle.lowmc.specs.Lent.{row}
@@ -31,38 +31,48 @@ low-sum a b =
     ∙ sym (digit-odd (a + b))
 
 -- the ones in word k of a row AND a block
-module _ (s : Bytes) (ws : List ℕ) (k x : ℕ) (fits : x < 2 ^ 64) (h : Holds (from (8 * (8 * k)) (bitsOf s)) x) where
-  pub ones-few : ones (bitAnd x (getD ws k 0)) ≤ 64
-  ones-few = ones-le 64 (bitAnd x (getD ws k 0)) (lt-of-le-of-lt (and-le-l x (getD ws k 0)) fits)
-
-  pub ones-odd : odd (ones (bitAnd x (getD ws k 0))) ≡ rowParity 64 (from (64 * k) (bitsOf s)) (from (64 * k) (listBits ws))
-  unfolding rowParity
-  ones-odd =
-      ones-holds _ _ (lt-of-le-of-lt (and-le-l x (getD ws k 0)) fits)
-      (holds-and (from (64 * k) (bitsOf s)) (from (64 * k) (listBits ws)) x (getD ws k 0)
-      (λ j l. h j l ∙ ap (bitsOf s) (omega arith)) (holds-at ws k))
+pub ones-odd : (s : Bytes) (ws : List ℕ) (k x : ℕ) → x < 2 ^ 64 → Holds (from (8 * (8 * k)) (bitsOf s)) x
+    → odd (ones (bitAnd x (getD ws k 0))) ≡ rowParity 64 (from (64 * k) (bitsOf s)) (from (64 * k) (listBits ws))
+unfolding rowParity
+ones-odd s ws k x fits h =
+    ones-holds _ _ (lt-of-le-of-lt (and-le-l x (getD ws k 0)) fits)
+    (holds-and (from (64 * k) (bitsOf s)) (from (64 * k) (listBits ws)) x (getD ws k 0) (λ j l. h j l ∙ ap (bitsOf s) (omega arith)) (holds-at ws k))
 
 odd-low : (a b r : ℕ) → r ≡ (a + b) % 2 → odd r ≡ odd a ⊻ odd b
 unfolding odd
 odd-low a b r e = ap odd e ∙ (let d : (a + b) % 2 % 2 ≡ (a + b) % 2 = omega arith in rw d) ∙ odd-add a b
 
 -- the ones of m bits and of n more
-pub odd-join : (f g : Bits) (m n t o r : ℕ) → odd t ≡ rowParity m f g → odd o ≡ rowParity n (from m f) (from m g) → r ≡ (t + o) % 2
+odd-join : (f g : Bits) (m n t o r : ℕ) → odd t ≡ rowParity m f g → odd o ≡ rowParity n (from m f) (from m g) → r ≡ (t + o) % 2
     → odd r ≡ rowParity (m + n) f g
 unfolding rowParity
 odd-join f g m n t o r et eo er =
     odd-low t o r er ∙ ap₂ _⊻_ et eo ∙ xor-comm _ _ ∙ sym (parity-add m n (λ j. f j && g j))
 
--- the first word
-pub odd-first : (f g : Bits) (o : ℕ) → odd o ≡ rowParity 64 (from (64 * 0) f) (from (64 * 0) g) → odd o ≡ rowParity 64 f g
-unfolding rowParity
-odd-first f g o e = e ∙ parity-cong 64 _ _ (λ j h. let z : 0 + j ≡ j = omega arith in ap (λ (i : ℕ). f i && g i) z)
-
 -- a word behind others
-pub odd-behind : (f g : Bits) (m n k o : ℕ) → m + n ≡ k → odd o ≡ rowParity 64 (from k f) (from k g)
+odd-behind : (f g : Bits) (m n k o : ℕ) → m + n ≡ k → odd o ≡ rowParity 64 (from k f) (from k g)
     → odd o ≡ rowParity 64 (from n (from m f)) (from n (from m g))
 unfolding rowParity
 odd-behind f g m n k o d e = e ∙ parity-cong 64 _ _ (λ j h. let z : k + j ≡ m + (n + j) = omega arith in ap (λ (i : ℕ). f i && g i) z)
+
+-- the low bits of the counts of two, three and four words
+module _ (f g : Bits) where
+  -- o ones in word k
+  abbrev pub Counted : ℕ → ℕ → Type 0
+  Counted k o = odd o ≡ rowParity 64 (from (64 * k) f) (from (64 * k) g)
+
+  pub two-words : (a b r : ℕ) → Counted 0 a → Counted 1 b → r ≡ (a + b) % 2 → odd r ≡ rowParity 128 f g
+  unfolding rowParity
+  two-words a b r ea eb e =
+      odd-join f g 64 64 a b r (ea ∙ parity-cong 64 _ _ (λ j h. let z : 0 + j ≡ j = omega arith in ap (λ (i : ℕ). f i && g i) z)) eb e
+
+  pub three-words : (t c r : ℕ) → odd t ≡ rowParity 128 f g → Counted 2 c → r ≡ (t + c) % 2 → odd r ≡ rowParity 192 f g
+  three-words t c r et ec e = odd-join f g 128 64 t c r et ec e
+
+  pub four-words : (t c d u r : ℕ) → odd t ≡ rowParity 128 f g → Counted 2 c → Counted 3 d → u ≡ (c + d) % 2 → r ≡ (t + u) % 2
+      → odd r ≡ rowParity 256 f g
+  four-words t c d u r et ec ed eu er =
+      odd-join f g 128 128 t u r et (odd-join (from 128 f) (from 128 g) 64 64 c d u ec (odd-behind f g 128 64 192 d refl ed) eu) er
 
 -- the low bit itself
 pub low-digit : (f g : Bits) (m n a r : ℕ) → r ≡ a % 2 → odd r ≡ rowParity m f g → m ≡ n → r ≡ digit (rowParity n f g)

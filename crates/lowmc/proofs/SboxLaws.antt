@@ -1,7 +1,7 @@
 -- Laws of the S-boxes on words: what changes of a word is put in its places; a layer of a block is that of its first word.
 use mathlib.Core.Path.{_≡_, refl, sym, ap, ap₂, _∙_, fun-ext}
 use mathlib.Core.Logic.{⊎-elim}
-use mathlib.Core.Bool.{Bool, false, _&&_}
+use mathlib.Core.Bool.{Bool}
 use mathlib.Core.List.{List, [], _∷_}
 use Prim.Native.Nat.{ℕ, _+_, _*_, _/_, _%_, _^_, _≤_, _<_}
 use native.Mathlib.Omega.{arith}
@@ -17,11 +17,12 @@ use Rattle.circuit.specs.Gates.{leftFactor, rightFactor, sboxesBy}
 use Rattle.circuit.proofs.LowmcLaws.{three-at, inThree-xor, sboxes-in, sboxes-past, sboxes-cong}
 use Rattle.circuit.proofs.GatesLaws.{left-cong, right-cong, sboxesBy-in, sboxesBy-past, sboxesBy-cong}
 use Rattle.lowmc.specs.declared.Lanes.{Lanes}
-use Rattle.lowmc.specs.Inner.{InWord, lane, Laned}
+use Rattle.lowmc.specs.Inner.{InWord, Laned}
 use Rattle.lowmc.proofs.LaneLaws.{lane-xor, lane-and, places, lanes-placed}
 
--- ---- what changes, put in its places
+-- ---- what changes of a word
 
+-- c, b and a of the S-boxes that change by what three lanes have in their places
 changed : (s : ℕ) (f F c b a : Bits) (x d : ℕ) → Holds f x → Holds (upTo (3 * s) (places c b a)) d
     → ((i : ℕ) → i < 3 * s
     → inThree (f (3 * (i / 3)) ⊻ c (3 * (i / 3))) (f (3 * (i / 3) + 1) ⊻ b (3 * (i / 3))) (f (3 * (i / 3) + 2) ⊻ a (3 * (i / 3))) (i % 3) ≡ F i)
@@ -106,6 +107,7 @@ module _ (s x : ℕ) (l : Lanes) (L : Laned s (wordBits x) l) (fa : l .a < 2 ^ 6
 
 -- ---- a block's first word
 
+-- its bits are the block's first
 pub first-word : (ws : List ℕ) → Agree 64 (wordBits (getD ws 0 0)) (listBits ws)
 first-word ws i h = sym (word-at ws 0 i h) ∙ ap (listBits ws) (omega arith)
 
@@ -119,6 +121,7 @@ top-word ws F y n h rest =
     other : (k : ℕ) → 1 ≤ k → Holds (from (64 * k) F) (getD ws k 0)
     other k l i b = holds-at ws k i b ∙ sym (rest (64 * k + i) (omega arith))
 
+-- what is computed of the first word, as what a layer does to the block
 module _ (s : ℕ) (h : InWord s) (ws : List ℕ) (n : length ws ≡ 4) (y : ℕ) where
   pub sboxes-block : Holds (sboxes s (wordBits (getD ws 0 0))) y
       → listBits (y ∷ getD ws 1 0 ∷ getD ws 2 0 ∷ getD ws 3 0 ∷ []) ≡ sboxes s (listBits ws)

@@ -1,7 +1,6 @@
-// LowMC over lent tables: the product of a matrix and a block, the S-boxes, a round, the encryption, and a public key.
-// No branch and no index depends on a bit of a key, a block or a state.
+// LowMC over lent tables: products, S-boxes, a round, the encryption, a public key. No branch and no index depends on a secret bit.
 ghost use mathlib.Core.Path.{_≡_};
-ghost use Prim.Native.Nat.{ℕ, _+_, _*_, _%_, _≤_, _<_};
+ghost use Prim.Native.Nat.{_+_, _*_, _%_, _≤_, _<_};
 ghost use lib.ListN.{length};
 ghost use Rattle.slices.specs.Slices.{over};
 ghost use Rattle.bits.specs.Bits.{_⊕_, upTo, from};
@@ -25,7 +24,6 @@ use sets::Set;
 
 // The low bit of a sum. Written as an exclusive or of low bits, the counts of a row's words compile to one.
 fn low_bit(a: u32, b: u32) -> u32
-    requires { ⌜ (a ≤ 64) × (b ≤ 64) ⌝ }
     ensures { λ r. ⌜ r ≡ (a + b) % 2 ⌝ }
 {
     (a % 2) ^ (b % 2)
@@ -34,7 +32,7 @@ fn low_bit(a: u32, b: u32) -> u32
 // The ones in word k of row AND v.
 fn ones(row: &[u8], v: Block, k: usize) -> u32
     requires { ⌜ (k < 4) × (8 * k + 8 ≤ length (now row)) ⌝ }
-    ensures { λ r. ⌜ (r ≤ 64) × (odd r ≡ rowParity 64 (from (64 * k) (bitsOf (now (row .entry)))) (from (64 * k) (blockBits v))) ⌝ }
+    ensures { λ r. ⌜ odd r ≡ rowParity 64 (from (64 * k) (bitsOf (now (row .entry)))) (from (64 * k) (blockBits v)) ⌝ }
 {
     u64::count_ones(bits::load_word(row, 8 * k) & v.words[k])
 }
@@ -86,14 +84,13 @@ fn product_rows(m: &[u8], w: usize, v: Block) -> Block
     requires { ⌜ Words w × (length (now m) ≡ 8 * w * w) ⌝ }
     ensures { λ r. ⌜ blockBits r ≡ product (8 * w) (row w (now (m .entry))) (blockBits v) ⌝ }
 {
-    Block {
-        words: [
-            product_word(m, w, 0, v),
-            product_word(m, w, 64, v),
-            product_word(m, w, 128, v),
-            product_word(m, w, 192, v),
-        ],
-    }
+    let words = [
+        product_word(m, w, 0, v),
+        product_word(m, w, 64, v),
+        product_word(m, w, 128, v),
+        product_word(m, w, 192, v),
+    ];
+    Block { words }
 }
 
 // The product of matrix k of a table and v.
@@ -158,8 +155,7 @@ fn sbox_word(x: u64, s: usize) -> u64
     let l = split(x, s);
     let c = l.a ^ l.b ^ (l.a & l.b);
     let b = l.a ^ (l.c & l.a);
-    let a = l.b & l.c;
-    x ^ (c ^ (b >> 1) ^ (a >> 2))
+    x ^ (c ^ (b >> 1) ^ ((l.b & l.c) >> 2))
 }
 
 // The same, where t has what the gates ab, bc, ca gave.
@@ -180,9 +176,8 @@ pub fn sboxes(p: Set, x: Block) -> Block
     ensures { λ r. ⌜ blockBits r ≡ sboxes (p .s) (blockBits x) ⌝ }
 {
     let top = sbox_word(x.words[0], p.s);
-    Block {
-        words: [top, x.words[1], x.words[2], x.words[3]],
-    }
+    let words = [top, x.words[1], x.words[2], x.words[3]];
+    Block { words }
 }
 
 // The layer of S-boxes, where t has what the gates ab, bc, ca gave.
@@ -191,9 +186,8 @@ pub fn sboxes_by(p: Set, x: Block, t: u64) -> Block
     ensures { λ r. ⌜ blockBits r ≡ sboxesBy (p .s) (blockBits x) (wordBits t) ⌝ }
 {
     let top = sbox_word_by(x.words[0], t, p.s);
-    Block {
-        words: [top, x.words[1], x.words[2], x.words[3]],
-    }
+    let words = [top, x.words[1], x.words[2], x.words[3]];
+    Block { words }
 }
 
 // The left factors a, b, c of the gates ab, bc, ca of a layer.
@@ -228,8 +222,7 @@ pub fn turn(p: Set, keys: &[u8], layers: &[u8], i: usize, key: Block, c: Block, 
     ensures { λ r. ⌜ blockBits r ≡ product (p .n) (matrixOf (p .n) (now (layers .entry)) i) (blockBits y)
         ⊕ blockBits c ⊕ product (p .n) (matrixOf (p .n) (now (keys .entry)) (i + 1)) (blockBits key) ⌝ }
 {
-    let z = product(p, layers, i, y);
-    z.xor(c.xor(product(p, keys, i + 1, key)))
+    product(p, layers, i, y).xor(c.xor(product(p, keys, i + 1, key)))
 }
 
 // A round of LowMC.

@@ -1,9 +1,6 @@
 -- `lowmc::constant` meets its contract.
 use native.Mathlib.Omega.{arith}
-use Prim.Native.Nat.{_*_}
-use lib.ListN.{length}
-use Rattle.sets.specs.Lengths.{w}
-use Rattle.lowmc.proofs.LentLaws.{words, row-in, part-long, constant-of}
+use Rattle.lowmc.proofs.LentLaws.{constant-in, constant-small, constant-of}
 use borrow.Author.Needs.{needs}
 use Rattle.lowmc.proofs.constant.Statement.{statement}
 use Rattle.lowmc.proofs.constant.Tie as tie
@@ -14,12 +11,14 @@ width-requires c κs = search needs
 mul-at : tie.Need-mul-at
 mul-at c =
     let a = c .before .before .args in
-    omega (arith, row-in (c .width .result) (w (a .p)) (a .i) (c .width .ensures) (length (a .constants .now)) (a .p .r) (c .before .before .pre .2) (c .before .before .pre .1))
+    let w = c .width in
+    omega (arith, constant-in (c .before .before .pre .0) (w .result) (w .ensures) (a .i) (a .constants .now) (c .before .before .pre .1) (c .before .before .pre .2))
 
 add-end : tie.Need-add-end
 add-end c =
     let a = c .before .before .args in
-    omega (arith, row-in (c .width .result) (w (a .p)) (a .i) (c .width .ensures) (length (a .constants .now)) (a .p .r) (c .before .before .pre .2) (c .before .before .pre .1))
+    let w = c .width in
+    omega (arith, constant-in (c .before .before .pre .0) (w .result) (w .ensures) (a .i) (a .constants .now) (c .before .before .pre .1) (c .before .before .pre .2))
 
 sub-load : tie.Need-sub-load
 sub-load c = search needs
@@ -30,19 +29,20 @@ part-load-start c = search needs
 part-load-end : tie.Need-part-load-end
 part-load-end c =
     let a = c .before .before .args in
-    omega (arith, row-in (c .width .result) (w (a .p)) (a .i) (c .width .ensures) (length (a .constants .now)) (a .p .r) (c .before .before .pre .2) (c .before .before .pre .1))
+    let w = c .width in
+    omega (arith, constant-in (c .before .before .pre .0) (w .result) (w .ensures) (a .i) (a .constants .now) (c .before .before .pre .1) (c .before .before .pre .2))
 
 load-requires : tie.Need-load-requires
 load-requires c κs =
     let a = c .before .before .before .args in
-    let x = c .before .width .result in
-    let h = row-in x (w (a .p)) (a .i) (c .before .width .ensures) (length (a .constants .now)) (a .p .r) (c .before .before .before .pre .2) (c .before .before .before .pre .1) in
-    omega (arith, part-long (a .constants .now) (a .i * x) x h, c .before .width .ensures, words (c .before .before .before .pre .0) .most)
+    let w = c .before .width in
+    constant-small (c .before .before .before .pre .0) (w .result) (w .ensures) (a .i) (a .constants .now) (c .before .before .before .pre .1) (c .before .before .before .pre .2)
 
 returns : tie.Need-returns
 returns c =
     let a = c .before .before .before .before .args in
-    constant-of (a .p .n) (c .before .before .width .result) (a .i) (a .constants .now) _ (c .before .before .width .ensures) (c .load .ensures)
+    let w = c .before .before .width in
+    constant-of (c .before .before .before .before .pre .0) (w .result) (w .ensures) (a .i) (a .constants .now) (c .before .before .before .before .pre .1) (c .before .before .before .before .pre .2) _ (c .load .ensures)
 
 pub constant-spec : {M : Type 1} → statement M
 constant-spec =

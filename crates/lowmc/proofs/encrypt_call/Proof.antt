@@ -12,7 +12,8 @@ use Rattle.sets.proofs.Each.{known-set, most}
 use Rattle.answers.specs.declared.Refusal.the-variants.{Fine, NoSet}
 use Rattle.answers.specs.Answers.{answer}
 use Rattle.answers.proofs.OutcomeLaws.{promise-refused, promise-given}
-use Rattle.lowmc.proofs.CallsLaws.{passed, lent, encrypt-no-set, encrypt-refused, encrypt-given, length-encrypted}
+use Rattle.lowmc.proofs.EncryptedLaws.{length-encrypted}
+use Rattle.lowmc.proofs.CallsLaws.{passed, lent, encrypt-no-set, encrypt-refused, encrypt-given}
 use borrow.Author.Needs.{needs}
 use Rattle.lowmc.proofs.encrypt_call.Statement.{statement}
 use Rattle.lowmc.proofs.encrypt_call.Tie as tie

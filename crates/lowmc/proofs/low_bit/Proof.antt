@@ -1,6 +1,5 @@
 -- `lowmc::low_bit` meets its contract.
 use Rattle.lowmc.proofs.ProductLaws.{low-sum}
-use borrow.Author.Needs.{needs}
 use Rattle.lowmc.proofs.low_bit.Statement.{statement}
 use Rattle.lowmc.proofs.low_bit.Tie as tie
 

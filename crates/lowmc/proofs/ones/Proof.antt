@@ -1,6 +1,6 @@
 -- `lowmc::ones` meets its contract.
 use Prim.Native.Nat.{_<_, _^_}
-use Rattle.lowmc.proofs.ProductLaws.{ones-few, ones-odd}
+use Rattle.lowmc.proofs.ProductLaws.{ones-odd}
 use borrow.Author.Needs.{needs}
 use Rattle.lowmc.proofs.ones.Statement.{statement}
 use Rattle.lowmc.proofs.ones.Tie as tie
@@ -22,7 +22,7 @@ returns c =
     let a = c .before .before .before .args in
     let w = c .before .load-word in
     let f : w .result < 2 ^ 64 = search needs in
-    (ones-few (a .row .now) (a .t2 .words) (a .k) (w .result) f (w .ensures), ones-odd (a .row .now) (a .t2 .words) (a .k) (w .result) f (w .ensures))
+    ones-odd (a .row .now) (a .t2 .words) (a .k) (w .result) f (w .ensures)
 
 pub ones-spec : {M : Type 1} → statement M
 ones-spec =

@@ -1,6 +1,6 @@
 -- `lowmc::product_word` meets its contract.
 use native.Mathlib.Omega.{arith}
-use Prim.Native.Nat.{_+_, _*_, _≤_}
+use Prim.Native.Nat.{_+_, _*_}
 use native.Mathlib.Nat.{mul-le-mul-right}
 use Rattle.bits.specs.Words.{blockBits}
 use Rattle.lowmc.specs.Lent.{row}

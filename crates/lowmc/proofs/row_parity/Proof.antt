@@ -1,12 +1,11 @@
 -- `lowmc::row_parity` meets its contract.
 use native.Mathlib.Omega.{arith}
-use mathlib.Core.Path.{refl}
 use Prim.Native.Nat.{_*_}
 use lib.ListN.{length}
-use Rattle.bits.specs.Bits.{Bits, from}
+use Rattle.bits.specs.Bits.{Bits}
 use Rattle.bits.specs.Bytes.{bitsOf}
 use Rattle.bits.specs.Words.{blockBits}
-use Rattle.lowmc.proofs.ProductLaws.{odd-first, odd-join, odd-behind, low-digit}
+use Rattle.lowmc.proofs.ProductLaws.{two-words, three-words, four-words, low-digit}
 use borrow.Author.Needs.{needs}
 use Rattle.lowmc.proofs.row_parity.Statement.{statement}
 use Rattle.lowmc.proofs.row_parity.Tie as tie
@@ -25,7 +24,7 @@ returns c =
     let a = c .before .before .before .before .before .args in
     let f : Bits = bitsOf (a .row .now) in
     let g : Bits = blockBits (a .v) in
-    let two = odd-join f g 64 64 _ _ _ (odd-first f g _ (c .before .before .before .ones .ensures .1)) (c .before .before .ones2 .ensures .1) (c .before .low-bit .ensures) in
+    let two = two-words f g _ _ _ (c .before .before .before .ones .ensures) (c .before .before .ones2 .ensures) (c .before .low-bit .ensures) in
     low-digit f g 128 (8 * length (a .row .now)) _ _ (c .before .low-bit .ensures) two (omega arith)
 
 ones-requires-3 : tie.Need-ones-requires-3
@@ -39,8 +38,8 @@ returns-2 c =
     let a = c .before .before .before .before .before .before .before .before .args in
     let f : Bits = bitsOf (a .row .now) in
     let g : Bits = blockBits (a .v) in
-    let two = odd-join f g 64 64 _ _ _ (odd-first f g _ (c .before .before .before .before .before .before .ones .ensures .1)) (c .before .before .before .before .before .ones2 .ensures .1) (c .before .before .before .before .low-bit .ensures) in
-    let three = odd-join f g 128 64 _ _ _ two (c .before .ones3 .ensures .1) (c .low-bit2 .ensures) in
+    let two = two-words f g _ _ _ (c .before .before .before .before .before .before .ones .ensures) (c .before .before .before .before .before .ones2 .ensures) (c .before .before .before .before .low-bit .ensures) in
+    let three = three-words f g _ _ _ two (c .before .ones3 .ensures) (c .low-bit2 .ensures) in
     low-digit f g 192 (8 * length (a .row .now)) _ _ (c .low-bit2 .ensures) three (omega arith)
 
 ones-requires-4 : tie.Need-ones-requires-4
@@ -60,10 +59,10 @@ returns-3 c =
     let a = c .before .before .before .before .before .before .before .before .before .before .args in
     let f : Bits = bitsOf (a .row .now) in
     let g : Bits = blockBits (a .v) in
-    let two = odd-join f g 64 64 _ _ _ (odd-first f g _ (c .before .before .before .before .before .before .before .before .ones .ensures .1)) (c .before .before .before .before .before .before .before .ones2 .ensures .1) (c .before .before .before .before .before .before .low-bit .ensures) in
-    let last = odd-behind f g 128 64 192 _ refl (c .before .before .ones5 .ensures .1) in
-    let more = odd-join (from 128 f) (from 128 g) 64 64 _ _ _ (c .before .before .before .ones4 .ensures .1) last (c .before .low-bit3 .ensures) in
-    let four = odd-join f g 128 128 _ _ _ two more (c .low-bit4 .ensures) in
+    let first = c .before .before .before .before .before .before .before .before .ones .ensures in
+    let two = two-words f g _ _ _ first (c .before .before .before .before .before .before .before .ones2 .ensures) (c .before .before .before .before .before .before .low-bit .ensures) in
+    let third = c .before .before .before .ones4 .ensures in
+    let four = four-words f g _ _ _ _ _ two third (c .before .before .ones5 .ensures) (c .before .low-bit3 .ensures) (c .low-bit4 .ensures) in
     low-digit f g 256 (8 * length (a .row .now)) _ _ (c .low-bit4 .ensures) four (omega arith)
 
 pub row-parity-spec : {M : Type 1} → statement M

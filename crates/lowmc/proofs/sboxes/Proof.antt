@@ -13,14 +13,14 @@ element-copy-out-sbox-word c = search needs
 sbox-word-requires : tie.Need-sbox-word-requires
 sbox-word-requires c κs = in-word (c .before .pre)
 
-element-copy-out-t7 : tie.Need-element-copy-out-t7
-element-copy-out-t7 c = search needs
+element-copy-out-t8 : tie.Need-element-copy-out-t8
+element-copy-out-t8 c = search needs
 
-element-copy-out-t12 : tie.Need-element-copy-out-t12
-element-copy-out-t12 c = search needs
+element-copy-out-t13 : tie.Need-element-copy-out-t13
+element-copy-out-t13 c = search needs
 
-element-copy-out-t15 : tie.Need-element-copy-out-t15
-element-copy-out-t15 c = search needs
+element-copy-out-t16 : tie.Need-element-copy-out-t16
+element-copy-out-t16 c = search needs
 
 returns : tie.Need-returns
 returns c =
@@ -34,7 +34,7 @@ sboxes-spec =
     (tie.spec
     element-copy-out-sbox-word
     sbox-word-requires
-    element-copy-out-t7
-    element-copy-out-t12
-    element-copy-out-t15
+    element-copy-out-t8
+    element-copy-out-t13
+    element-copy-out-t16
     returns)

@@ -14,14 +14,14 @@ element-copy-out-sbox-word-by c = search needs
 sbox-word-by-requires : tie.Need-sbox-word-by-requires
 sbox-word-by-requires c κs = in-word (c .before .pre)
 
-element-copy-out-t8 : tie.Need-element-copy-out-t8
-element-copy-out-t8 c = search needs
+element-copy-out-t9 : tie.Need-element-copy-out-t9
+element-copy-out-t9 c = search needs
 
-element-copy-out-t13 : tie.Need-element-copy-out-t13
-element-copy-out-t13 c = search needs
+element-copy-out-t14 : tie.Need-element-copy-out-t14
+element-copy-out-t14 c = search needs
 
-element-copy-out-t16 : tie.Need-element-copy-out-t16
-element-copy-out-t16 c = search needs
+element-copy-out-t17 : tie.Need-element-copy-out-t17
+element-copy-out-t17 c = search needs
 
 returns : tie.Need-returns
 returns c =
@@ -35,7 +35,7 @@ sboxes-by-spec =
     (tie.spec
     element-copy-out-sbox-word-by
     sbox-word-by-requires
-    element-copy-out-t8
-    element-copy-out-t13
-    element-copy-out-t16
+    element-copy-out-t9
+    element-copy-out-t14
+    element-copy-out-t17
     returns)
