@@ -1,14 +1,12 @@
 /* Times the library's SHAKE128 beside OpenSSL's, in one run. Both are timed in turns, by the processor time that they take,
    and the median counts, so that other work on the machine moves both alike and the ratio little. */
-#define _POSIX_C_SOURCE 200112L
 #include <openssl/crypto.h>
 #include <openssl/evp.h>
 #include <stdio.h>
-#include <stdlib.h>
 #include <string.h>
-#include <time.h>
 
 #include "picnic.h"
+#include "timing.h"
 
 enum { TURNS = 31, RATE = 168, OUTPUT = 32, LONGEST = 1048576 };
 
@@ -23,12 +21,6 @@ static uint8_t input[LONGEST];
 
 /* The answer of a hash goes here. */
 static uint8_t output[OUTPUT];
-
-static void fail(const char *what)
-{
-    fprintf(stderr, "bench: %s\n", what);
-    exit(1);
-}
 
 static void library(size_t length)
 {
@@ -47,14 +39,6 @@ static void openssl(size_t length)
         fail("OpenSSL refuses");
 }
 
-static double now(void)
-{
-    struct timespec time;
-    if (clock_gettime(CLOCK_PROCESS_CPUTIME_ID, &time) != 0)
-        fail("there is no clock of processor time");
-    return 1e9 * (double)time.tv_sec + (double)time.tv_nsec;
-}
-
 /* Nanoseconds for each permutation: one for each block that is filled, and one for the last, which the padding fills. */
 static double turn(void (*hash)(size_t), const struct task *task)
 {
@@ -64,18 +48,6 @@ static double turn(void (*hash)(size_t), const struct task *task)
     for (i = 0; i < task->times; i++)
         hash(task->length);
     return (now() - start) / permutations;
-}
-
-static int by_size(const void *x, const void *y)
-{
-    double a = *(const double *)x, b = *(const double *)y;
-    return (a > b) - (a < b);
-}
-
-static double median(double *turns)
-{
-    qsort(turns, TURNS, sizeof turns[0], by_size);
-    return turns[TURNS / 2];
 }
 
 static void check_same(size_t length)
@@ -90,7 +62,7 @@ static void check_same(size_t length)
 
 static void measure(const struct task *task)
 {
-    double ours[TURNS], theirs[TURNS];
+    double ours[TURNS], theirs[TURNS], our_median, their_median;
     int i;
 
     check_same(task->length);
@@ -98,7 +70,9 @@ static void measure(const struct task *task)
         ours[i] = turn(library, task);
         theirs[i] = turn(openssl, task);
     }
-    printf("%-12s %10.1f %10.1f %10.2f\n", task->name, median(ours), median(theirs), median(ours) / median(theirs));
+    our_median = median(ours, TURNS);
+    their_median = median(theirs, TURNS);
+    printf("%-12s %10.1f %10.1f %10.2f\n", task->name, our_median, their_median, our_median / their_median);
 }
 
 int main(void)

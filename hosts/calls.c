@@ -15,36 +15,47 @@ struct given {
     struct slice slice;
 };
 
-/* Every function: its name, the kinds of its arguments, and the arguments as it takes them, N a number and S a slice. */
-#define FUNCTIONS(FUNCTION)                                                                                            \
-    FUNCTION(picnic_hash, "niw", N(0), S(1), S(2))
-
+/* A number and a slice as a function takes them. */
 #define N(i) given[i].number
 #define S(i) given[i].slice.start, given[i].slice.length
 
-#define MAKE(name, kinds, ...)                                                                                         \
+/* functions.h is made from the header and has a line for each function: its name, the kinds of its arguments, and the
+   arguments as it takes them. */
+#define FUNCTION(name, kinds, ...)                                                                                     \
     static uint64_t make_##name(const struct given *given)                                                             \
     {                                                                                                                  \
         return name(__VA_ARGS__);                                                                                      \
     }
-FUNCTIONS(MAKE)
+#include "functions.h"
+#undef FUNCTION
 
-#define ENTRY(name, kinds, ...) { #name, kinds, make_##name },
-
+#define FUNCTION(name, kinds, ...) { #name, kinds, make_##name },
 static const struct function {
     const char *name;
     const char *kinds;
     uint64_t (*make)(const struct given *);
-} functions[] = { FUNCTIONS(ENTRY) };
+} functions[] = {
+#include "functions.h"
+};
 
-/* Each call is made in each of these ways: the pattern as it is or turned, so that a byte that was left out, or written
-   where none may be, is not right by chance each time; and another pointer for slices of length 0. */
+/* Each call is made in several ways: the pattern as it is or turned, so that a byte that was left out, or written where none
+   may be, is not right by chance each time; and another pointer for slices of length 0. Of calls without such a slice the
+   last way would be the first again. */
 static const struct way {
     unsigned char mask;
     enum empty empty;
 } ways[] = { { 0x00, AT_ITS_PLACE }, { 0xff, AT_ONE }, { 0x00, NULL_POINTER } };
 
 enum { WAYS = sizeof ways / sizeof ways[0] };
+
+static int count_ways(const struct call *call)
+{
+    int i;
+    for (i = 0; i < call->count; i++)
+        if (call->arguments[i].kind != NUMBER && call->arguments[i].length == 0)
+            return WAYS;
+    return WAYS - 1;
+}
 
 /* The call that is being made, for a crash to name it. */
 static const char *current = "no call";
@@ -116,11 +127,11 @@ static int make_call(const struct call *call, const struct function *function, c
     return fine;
 }
 
-/* Makes the call in every way, up to the first that is not fine. */
+/* Makes the call in its ways, up to the first that is not fine. */
 static int try_call(const struct call *call, const struct function *function)
 {
-    int i;
-    for (i = 0; i < WAYS; i++)
+    int i, count = count_ways(call);
+    for (i = 0; i < count; i++)
         if (!make_call(call, function, &ways[i]))
             return 0;
     return 1;

@@ -1,8 +1,7 @@
-/* Stands in for the library, to test the host. The call copies its input to the start of its output, as far as both go,
-   keeps the rest and answers how many bytes it copied. By the set it does one thing wrong; set 0 is right. */
-#include <string.h>
+/* Stands in for the library, to test the host. */
+#include "wrong.h"
 
-#include "picnic.h"
+#include <string.h>
 
 enum { GUARD = 64 };
 
@@ -12,6 +11,8 @@ static int is_empty_at(const uint8_t *start, size_t length, int pointer)
     return length == 0 && found == pointer;
 }
 
+/* Copies its input to the start of its output, as far as both go, keeps the rest and answers how many bytes it copied. By the
+   set it does one thing wrong; set 0 is right. */
 uint64_t picnic_hash(uint64_t set, const uint8_t *input, size_t input_length, uint8_t *output, size_t output_length)
 {
     uint8_t *lent = (uint8_t *)input, first = output_length == 0 ? 0 : output[0];
@@ -44,4 +45,17 @@ uint64_t picnic_hash(uint64_t set, const uint8_t *input, size_t input_length, ui
     case 22: return is_empty_at(input, input_length, 2) ? n + 1 : n;
     }
     return n;
+}
+
+/* Writes both numbers, a byte each, and then both inputs. The output must hold them. */
+uint64_t mixed(uint64_t first, uint8_t *output, size_t output_length, const uint8_t *one, size_t one_length, uint64_t second,
+               const uint8_t *two, size_t two_length)
+{
+    if (output_length < 2 + one_length + two_length)
+        return (uint64_t)1 << 32;
+    output[0] = (uint8_t)first;
+    output[1] = (uint8_t)second;
+    memcpy(output + 2, one, one_length);
+    memcpy(output + 2 + one_length, two, two_length);
+    return 2 + one_length + two_length;
 }

@@ -2,9 +2,13 @@
 //! each must answer and write. `hosts/README.md` describes the format; this
 //! module writes it, and each module below it chooses the cases of one call.
 
+pub mod challenge;
+pub mod faults;
 pub mod hash;
+pub mod lowmc;
+pub mod seeds;
 
-use std::collections::{BTreeMap, BTreeSet};
+use std::collections::BTreeSet;
 use std::fmt;
 
 use crate::answers::{done, Refusal};
@@ -16,8 +20,27 @@ use crate::noise::Noise;
 pub fn of(function: &str) -> Option<Sheet> {
     match function {
         "hash" => Some(hash::sheet()),
+        "encrypt" => Some(lowmc::sheet(lowmc::Function::Encrypt)),
+        "public_key" => Some(lowmc::sheet(lowmc::Function::PublicKey)),
+        "seeds" => Some(seeds::sheet()),
+        "challenge" => Some(challenge::sheet()),
         _ => None,
     }
+}
+
+/// Set numbers that name no set. Taken for fewer bits, some would.
+const NO_SETS: [u64; 6] = [0, 4, 257, (1 << 32) + 1, (1 << 63) + 2, u64::MAX];
+
+/// The longest random input that is written in full and not as noise.
+const SHORT: usize = 32;
+
+/// A random input of this length.
+fn random_piece(noise: &mut Noise, length: usize) -> Piece {
+    if length <= SHORT {
+        return Piece::Hex(noise.bytes(length));
+    }
+    let seed = noise.number();
+    Piece::Noise { seed, length }
 }
 
 /// A piece of a byte string.
@@ -107,21 +130,39 @@ impl Call {
     }
 }
 
+/// A byte string with a name.
+struct Defined {
+    name: String,
+    pieces: Vec<Piece>,
+    bytes: Vec<u8>,
+}
+
 /// A file of calls.
 #[derive(Default)]
 pub struct Sheet {
-    defined: BTreeMap<String, Vec<u8>>,
+    defined: Vec<Defined>,
     calls: Vec<Call>,
     labels: BTreeSet<String>,
 }
 
 impl Sheet {
     /// Gives a name to a byte string that many calls use.
-    pub fn define(&mut self, name: &str, bytes: Vec<u8>) -> Piece {
+    pub fn define(&mut self, name: &str, pieces: Vec<Piece>) -> Piece {
         assert!(is_word(name) && !name.contains(':'), "{name:?} is no name");
-        let old = self.defined.insert(name.into(), bytes);
-        assert!(old.is_none(), "{name} is defined twice");
+        assert!(self.named(name).is_none(), "{name} is defined twice");
+        let bytes = self.bytes(&pieces);
+        self.defined.push(Defined {
+            name: name.into(),
+            pieces,
+            bytes,
+        });
         Piece::Named(name.into())
+    }
+
+    /// The bytes of this name.
+    fn named(&self, name: &str) -> Option<&[u8]> {
+        let found = self.defined.iter().find(|defined| defined.name == name);
+        found.map(|defined| defined.bytes.as_slice())
     }
 
     /// Adds a call.
@@ -143,14 +184,13 @@ impl Sheet {
     }
 
     fn piece(&self, piece: &Piece) -> Vec<u8> {
+        let whole = |name| self.named(name).expect("the name is defined");
         match piece {
             Piece::Hex(bytes) => bytes.clone(),
             Piece::Zeros(length) => vec![0; *length],
             Piece::Noise { seed, length } => Noise::new(*seed).bytes(*length),
-            Piece::Named(name) => self.defined[name].clone(),
-            Piece::Part { name, from, length } => {
-                self.defined[name][*from..*from + *length].to_vec()
-            }
+            Piece::Named(name) => whole(name).to_vec(),
+            Piece::Part { name, from, length } => whole(name)[*from..*from + *length].to_vec(),
         }
     }
 }
@@ -201,8 +241,8 @@ impl fmt::Display for Call {
 
 impl fmt::Display for Sheet {
     fn fmt(&self, f: &mut fmt::Formatter) -> fmt::Result {
-        for (name, bytes) in &self.defined {
-            writeln!(f, "define {name} hex:{}", to_hex(bytes))?;
+        for defined in &self.defined {
+            writeln!(f, "define {}{}", defined.name, joined(&defined.pieces))?;
         }
         self.calls.iter().try_for_each(|call| write!(f, "{call}"))
     }
@@ -211,6 +251,45 @@ impl fmt::Display for Sheet {
 #[cfg(test)]
 mod tests {
     use super::*;
+    use crate::sets::{Set, SETS};
+
+    impl Sheet {
+        /// How many labels start so.
+        pub fn count(&self, start: &str) -> usize {
+            let labels = self.labels.iter();
+            labels.filter(|label| label.starts_with(start)).count()
+        }
+
+        /// The set's number, the length of the output and what stands at its
+        /// start, of a call that has them as its first and last arguments.
+        pub fn ends(&self, call: &Call) -> (u64, usize, Vec<u8>) {
+            match (call.arguments.first(), call.arguments.last()) {
+                (Some(Argument::Number(set)), Some(Argument::Written { length, start })) => {
+                    (*set, *length, self.bytes(start))
+                }
+                _ => panic!("{}: other arguments", call.label),
+            }
+        }
+    }
+
+    /// Checks that a refused call keeps its output and any other writes as
+    /// many bytes as needed, and that each set has outputs of just that length
+    /// and longer ones.
+    pub fn check_outputs(sheet: &Sheet, needed: impl Fn(&Set) -> usize) {
+        let mut seen = BTreeSet::new();
+        for call in sheet.calls() {
+            let (set, length, start) = sheet.ends(call);
+            assert_eq!(call.answer & 0xffff_ffff, start.len() as u64);
+            if call.answer >> 32 != 0 {
+                assert!(start.is_empty(), "{}", call.label);
+                continue;
+            }
+            let set = Set::by_number(set).expect("no set is refused");
+            assert_eq!(start.len(), needed(set), "{}", call.label);
+            seen.insert((set.number, length > start.len()));
+        }
+        assert_eq!(seen.len(), 2 * SETS.len());
+    }
 
     fn labelled(label: &str) -> Call {
         Call::with_output(label.into(), "f", vec![], 0, Ok(vec![]))
@@ -219,7 +298,8 @@ mod tests {
     #[test]
     fn a_sheet_is_written_as_described() {
         let mut sheet = Sheet::default();
-        let keys = sheet.define("keys", vec![1, 2, 3]);
+        let zeros = sheet.define("zeros", vec![Piece::Zeros(7)]);
+        let keys = sheet.define("keys", vec![Piece::Hex(vec![1, 2, 3]), zeros]);
         sheet.add(Call::with_output(
             "fine".into(),
             "f",
@@ -235,7 +315,8 @@ mod tests {
             Err(Refusal::Room),
         ));
         let text = "\
-define keys hex:010203
+define zeros zeros:7
+define keys hex:010203 named:zeros
 call fine f
 number 7
 input named:keys
@@ -253,7 +334,7 @@ answer 0x600000000
     #[test]
     fn pieces_as_text_and_as_bytes() {
         let mut sheet = Sheet::default();
-        let named = sheet.define("s", vec![1, 2, 3, 4]);
+        let named = sheet.define("s", vec![Piece::Hex(vec![1, 2, 3, 4])]);
         let part = Piece::Part {
             name: "s".into(),
             from: 1,
@@ -287,8 +368,8 @@ answer 0x600000000
     #[should_panic(expected = "defined twice")]
     fn a_name_stands_for_one_string() {
         let mut sheet = Sheet::default();
-        sheet.define("same", vec![1]);
-        sheet.define("same", vec![2]);
+        sheet.define("same", vec![Piece::Zeros(1)]);
+        sheet.define("same", vec![Piece::Zeros(2)]);
     }
 
     #[test]

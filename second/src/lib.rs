@@ -10,10 +10,14 @@
 #![warn(missing_docs)]
 
 pub mod answers;
+pub mod bench;
 pub mod bits;
 pub mod calls;
+pub mod challenge;
+pub mod hashing;
 pub mod hex;
 pub mod keccak;
+pub mod known;
 pub mod lowmc;
 pub mod noise;
 pub mod sets;

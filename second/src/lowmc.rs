@@ -3,7 +3,10 @@
 //!
 //! Tables are byte strings. A matrix is written row by row, each row in as
 //! many bytes as hold n bits, and a round constant is one such row. Bits are
-//! handled one by one, as `bool`.
+//! handled one by one, as `bool`; the module `words` has the same cipher on
+//! words, for speed.
+
+mod words;
 
 use std::collections::BTreeMap;
 use std::sync::{Arc, Mutex};

@@ -6,6 +6,7 @@ use std::process::ExitCode;
 use std::str::FromStr;
 
 use second::answers::REFUSALS;
+use second::bench;
 use second::calls;
 use second::hex::{from_hex, to_hex};
 use second::lowmc::Lowmc;
@@ -19,17 +20,24 @@ second help
     print this text
 second constants
     print the numbers that a host's header has, a name and a number a line
-second calls hash
-    print calls of picnic_hash with their answers, for a C host to make
+second calls {hash|encrypt|public_key|seeds|challenge}
+    print calls of this function of the library with their answers, for a C
+    host to make
 second shake {128|256} OUTLEN
     hash standard input and print OUTLEN bytes of output in hex
 second tables N S R
     draw the LowMC tables for N bits, S S-boxes and R rounds, and print the
     SHAKE256 digests (32 bytes, in hex) of the key matrices, the layer
     matrices and the round constants, one a line
+second lend SET
+    write the drawn LowMC tables of set 1, 2 or 3 as bytes: key matrices,
+    layer matrices, round constants
 second encrypt SET KEYHEX BLOCKHEX
     encrypt a block with the LowMC of set 1, 2 or 3 over its drawn tables and
     print the ciphertext in hex
+second bench encrypt SET TURNS TIMES
+    encrypt TIMES times in each of TURNS turns, each time what the last time
+    gave, and print the nanoseconds of one encryption and the last ciphertext
 ";
 
 /// What went wrong, in words for the user.
@@ -58,7 +66,9 @@ fn run(arguments: &[String], input: &mut dyn Read, output: &mut dyn Write) -> Re
         ["calls", function] => run_calls(function, output),
         ["shake", which, length] => run_shake(which, length, input, output),
         ["tables", n, s, r] => run_tables(n, s, r, output),
+        ["lend", set] => run_lend(set, output),
         ["encrypt", set, key, block] => run_encrypt(set, key, block, output),
+        ["bench", "encrypt", set, turns, times] => run_bench(set, turns, times, output),
         _ => Err("no such subcommand with so many arguments; try: second help".into()),
     }
 }
@@ -146,13 +156,36 @@ fn run_tables(n: &str, s: &str, r: &str, output: &mut dyn Write) -> Result<(), R
     Ok(())
 }
 
+fn run_lend(set: &str, output: &mut dyn Write) -> Result<(), Refusal> {
+    let tables = set_of(set)?.lowmc().tables();
+    for table in [&tables.keys, &tables.layers, &tables.constants] {
+        write(output, table)?;
+    }
+    Ok(())
+}
+
 fn run_encrypt(set: &str, key: &str, block: &str, output: &mut dyn Write) -> Result<(), Refusal> {
-    let set = Set::by_number(number("SET", set)?).ok_or("there is no such set")?;
+    let set = set_of(set)?;
     let key = bytes("KEYHEX", key, set.width())?;
     let block = bytes("BLOCKHEX", block, set.width())?;
     let cipher = set.lowmc();
     let ciphertext = cipher.encrypt(&cipher.tables(), &key, &block);
     print(output, &format!("{}\n", to_hex(&ciphertext)))
+}
+
+fn run_bench(set: &str, turns: &str, times: &str, output: &mut dyn Write) -> Result<(), Refusal> {
+    let (turns, times) = (number("TURNS", turns)?, number("TIMES", times)?);
+    if turns == 0 || times == 0 {
+        return Err("nothing is measured in no time".into());
+    }
+    let measured = bench::encryptions(set_of(set)?, turns, times);
+    let last = to_hex(&measured.last);
+    print(output, &format!("{:.1} {last}\n", measured.nanoseconds))
+}
+
+/// An argument that is the number of a set.
+fn set_of(text: &str) -> Result<&'static Set, Refusal> {
+    Set::by_number(number("SET", text)?).ok_or("there is no such set".into())
 }
 
 /// An argument that is a number.
@@ -169,8 +202,12 @@ fn bytes(name: &str, text: &str, length: usize) -> Result<Vec<u8>, Refusal> {
 }
 
 fn print(output: &mut dyn Write, text: &str) -> Result<(), Refusal> {
+    write(output, text.as_bytes())
+}
+
+fn write(output: &mut dyn Write, bytes: &[u8]) -> Result<(), Refusal> {
     output
-        .write_all(text.as_bytes())
+        .write_all(bytes)
         .and_then(|()| output.flush())
         .map_err(|error| format!("standard output: {error}"))
 }

@@ -49,8 +49,43 @@ fn shake_prints_long_output_whole() {
 
 #[test]
 fn calls_prints_the_sheet_of_a_function() {
-    let sheet = second::calls::of("hash").unwrap();
-    check_answer(&["calls", "hash"], b"", &sheet.to_string());
+    for function in ["hash", "seeds"] {
+        let sheet = second::calls::of(function).unwrap();
+        check_answer(&["calls", function], b"", &sheet.to_string());
+    }
+}
+
+/// Each sheet is of calls of its own function.
+#[test]
+fn calls_go_to_the_function_that_is_asked_for() {
+    for function in ["hash", "encrypt", "public_key", "seeds"] {
+        let output = run(&["calls", function], b"");
+        let text = String::from_utf8_lossy(&output.stdout).into_owned();
+        let mut calls = text.lines().filter(|line| line.starts_with("call "));
+        let end = format!(" picnic_{function}");
+        assert!(text.contains("\ncall "), "{function}");
+        assert!(calls.all(|call| call.ends_with(&end)), "{function}");
+    }
+}
+
+/// All tables in one run of bytes, in the order in which a host lends them.
+#[test]
+fn lend_writes_the_tables() {
+    let tables = second::sets::SETS[1].lowmc().tables();
+    let output = run(&["lend", "2"], b"");
+    assert!(output.status.success());
+    let expected = [&tables.keys[..], &tables.layers, &tables.constants].concat();
+    assert!(output.stdout == expected);
+}
+
+/// A time, which no test depends on, and the last ciphertext.
+#[test]
+fn bench_prints_a_time_and_the_last_ciphertext() {
+    let output = run(&["bench", "encrypt", "1", "1", "1"], b"");
+    let text = String::from_utf8_lossy(&output.stdout).into_owned();
+    let (time, last) = text.split_once(' ').expect("there are two words");
+    assert!(time.parse::<f64>().is_ok(), "{text}");
+    assert_eq!(last, "0e30720b9f64d5c2a7771c8c238d8f70\n");
 }
 
 #[test]
@@ -90,7 +125,16 @@ fn tables_prints_three_digests() {
 fn help_names_every_subcommand() {
     let output = run(&["help"], b"");
     let text = String::from_utf8_lossy(&output.stdout).into_owned();
-    for name in ["help", "constants", "calls", "shake", "tables", "encrypt"] {
+    for name in [
+        "help",
+        "constants",
+        "calls",
+        "shake",
+        "tables",
+        "lend",
+        "encrypt",
+        "bench",
+    ] {
         assert!(text.contains(&format!("second {name}")), "{name}");
     }
 }
@@ -98,7 +142,7 @@ fn help_names_every_subcommand() {
 #[test]
 fn what_is_not_understood_is_refused() {
     let key = "80000000000000000000000000000000";
-    let refused: [&[&str]; 11] = [
+    let refused: [&[&str]; 15] = [
         &[],
         &["sign"],
         &["calls"],
@@ -107,6 +151,10 @@ fn what_is_not_understood_is_refused() {
         &["shake", "512", "16"],
         &["shake", "128", "-1"],
         &["tables", "128", "43", "4"],
+        &["lend", "0"],
+        &["bench", "encrypt", "4", "1", "1"],
+        &["bench", "encrypt", "1", "0", "1"],
+        &["bench", "encrypt", "1", "1", "0"],
         &["encrypt", "4", key, key],
         &["encrypt", "2", key, key],
         &["encrypt", "1", key, "xy"],

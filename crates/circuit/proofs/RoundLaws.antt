@@ -117,9 +117,14 @@ module _ (C : Cipher) (p : Bits) (x : Party → Bits) (tape : Party → Rows) wh
   unfolding Meets transcript run
   meets j i l g b = simp (← replays)
 
+  -- after each round their shares XOR to LowMC's state
+  pub signer-follows : (i : ℕ) → i ≤ C .r → xor3 (stateShare C p x tape i) ≡ stateAfter C (xor3 x) p i
+  unfolding xor3 run
+  signer-follows i l = simp replays (sound C p x tape (transcript C p x tape) meets i l)
+
   pub signer-encrypts : xor3 (outputShare C p x tape) ≡ encryption C (xor3 x) p
-  unfolding xor3 outputShare encryption run
-  signer-encrypts = simp replays (sound C p x tape (transcript C p x tape) meets (C .r) (le-refl (C .r)))
+  unfolding xor3 outputShare encryption
+  signer-encrypts = signer-follows (C .r) (le-refl (C .r))
 
 pub outputs-encrypt : OutputsEncrypt
 unfolding OutputsEncrypt

@@ -3,7 +3,7 @@
 //! Hashing takes a set number, for its SHAKE, adds no prefix and fills its
 //! whole output. It refuses with 1 or 6 alone.
 
-use super::{Argument, Call, Outcome, Piece, Sheet};
+use super::{random_piece, Argument, Call, Outcome, Sheet, NO_SETS};
 use crate::answers::Refusal;
 use crate::noise::Noise;
 use crate::sets::{Set, LONGEST_HASH_OUTPUT, SETS};
@@ -14,12 +14,6 @@ const SEED: u64 = 0x7069_636e_6963_0001;
 
 /// Calls of random lengths for each set.
 const RANDOM_CALLS: usize = 40;
-
-/// The longest input that is written in full and not as noise.
-const SHORT: usize = 32;
-
-/// Set numbers that name no set. Taken for fewer bits, some would.
-const NO_SETS: [u64; 6] = [0, 4, 257, (1 << 32) + 1, (1 << 63) + 2, u64::MAX];
 
 /// What the call must do.
 fn outcome(set: u64, input: &[u8], length: usize) -> Outcome {
@@ -39,7 +33,7 @@ struct Maker {
 impl Maker {
     /// Adds a call with an input of this length, and its outcome.
     fn add(&mut self, kind: &str, set: u64, input: usize, output: usize) {
-        let piece = self.input(input);
+        let piece = random_piece(&mut self.noise, input);
         let bytes = self.sheet.bytes(std::slice::from_ref(&piece));
         self.sheet.add(Call::with_output(
             format!("hash-{kind}-set{set}-in{input}-out{output}"),
@@ -48,14 +42,6 @@ impl Maker {
             output,
             outcome(set, &bytes, output),
         ));
-    }
-
-    fn input(&mut self, length: usize) -> Piece {
-        if length <= SHORT {
-            return Piece::Hex(self.noise.bytes(length));
-        }
-        let seed = self.noise.number();
-        Piece::Noise { seed, length }
     }
 
     /// Lengths at which a block of input or of output is not yet, just, and

@@ -1,0 +1,113 @@
+-- Laws of rows that are written one after the other, and of a trace's states.
+use mathlib.Core.Path.{_≡_, refl, ap, _∙_, subst⁻¹}
+use mathlib.Core.Logic.{⊎-elim}
+use mathlib.Core.Bool.{false}
+use mathlib.Core.List.{List, [], _∷_}
+use Prim.Native.Nat.{ℕ, zero, suc, _+_, _≤_, _<_}
+use native.Mathlib.Omega.{arith}
+use lib.ListN.{length, getD, set, replicate}
+use lib.Seq.{getD-set-same, getD-set-other}
+use Rattle.bits.specs.Bits.{Bits, upTo}
+use Rattle.bits.specs.Words.{wordBits, listBits}
+use Rattle.bits.specs.Rows.{Rows, rowsOf}
+use Rattle.bits.proofs.BitsLaws.{upTo-out}
+use Rattle.bits.proofs.NumberLaws.{below}
+use Rattle.bits.proofs.WordsLaws.{zero-bits, list-past, four-words, holds-at}
+use Rattle.circuit.specs.Round.{Party, party0, party1, party2}
+use Rattle.round.specs.Engine.{Written}
+
+-- what holds of each party
+pub three : (P : Party → Type 0) → P party0 → P party1 → P party2 → (j : Party) → P j
+three P a b c party0 = a
+three P a b c party1 = b
+three P a b c party2 = c
+
+-- what holds of place i, and of each other place
+pub by-place : (i : ℕ) (P : ℕ → Type 0) → P i → ((k : ℕ) → (k ≡ i → ⊥) → P k) → (k : ℕ) → P k
+by-place i P same other k =
+    ⊎-elim (λ (l : k < i). other k (λ e. omega arith))
+    (λ (l : i ≤ k).
+    ⊎-elim (λ (g : k < i + 1). let e : k ≡ i = omega arith in subst⁻¹ P e same) (λ (g : i + 1 ≤ k). other k (λ e. omega arith)) (below k (i + 1)))
+    (below k i)
+
+-- ---- rows
+
+zero-at : (n k : ℕ) → _≡_ {A = ℕ} (getD (replicate n 0) k 0) 0
+zero-at zero k = refl
+zero-at (suc n) zero = refl
+zero-at (suc n) (suc k) = zero-at n k
+
+-- no row is written
+pub written-none : (m n : ℕ) (t : Rows) → Written m 0 t (replicate n 0)
+unfolding rowsOf
+written-none m n t = record {
+  rowed = record { narrow = λ k j l. ap (λ (x : ℕ). wordBits x j) (zero-at n k) ∙ zero-bits j; few = λ k l. zero-at n k };
+  rows = λ k l. absurd (omega arith);
+}
+
+-- one row more
+pub written-more : (m i : ℕ) (t : Rows) (ws : List ℕ) (y : ℕ) → i < length ws → wordBits y ≡ upTo m (t i)
+    → Written m i t ws → Written m (i + 1) t (set ws i y)
+unfolding rowsOf
+written-more m i t ws y l e w = record {
+  rowed = record {
+    narrow = by-place i (λ k. (j : ℕ) → m ≤ j → wordBits (getD (set ws i y) k 0) j ≡ false)
+        (λ j h. ap (λ (x : Bits). x j) (same ∙ e) ∙ upTo-out m (t i) j h)
+        (λ k n j h. ap (λ (x : Bits). x j) (other k n) ∙ w .rowed .narrow k j h);
+    few = λ k h. getD-set-other ws i k y 0 (λ q. omega arith) ∙ w .rowed .few k (omega arith);
+  };
+  rows = by-place i (λ k. k < i + 1 → wordBits (getD (set ws i y) k 0) ≡ upTo m (t k))
+      (λ h. same ∙ e)
+      (λ k n h. other k n ∙ w .rows k (less k n h));
+}
+  where
+    same : wordBits (getD (set ws i y) i 0) ≡ wordBits y
+    same = ap wordBits (getD-set-same ws i y 0 l)
+
+    other : (k : ℕ) → (k ≡ i → ⊥) → wordBits (getD (set ws i y) k 0) ≡ wordBits (getD ws k 0)
+    other k n = ap wordBits (getD-set-other ws i k y 0 n)
+
+    less : (k : ℕ) → (k ≡ i → ⊥) → k < i + 1 → k < i
+    less k n h = ⊎-elim (λ (q : k < i). q) (λ (q : i ≤ k). absurd (n (omega arith))) (below k i)
+
+-- the same rows of another string of rows
+pub written-cong : (m n : ℕ) (t u : Rows) (ws : List ℕ) → ((i : ℕ) → i < n → t i ≡ u i) → Written m n t ws → Written m n u ws
+written-cong m n t u ws h w = record { rowed = w .rowed; rows = λ i l. w .rows i l ∙ ap (upTo m) (h i l) }
+
+-- ---- states
+
+-- a block is its four words
+pub four-of : (ws : List ℕ) → length ws ≡ 4 → listBits (getD ws 0 0 ∷ getD ws 1 0 ∷ getD ws 2 0 ∷ getD ws 3 0 ∷ []) ≡ listBits ws
+four-of ws h = four-words (listBits ws) _ _ _ _ (holds-at ws 0) (holds-at ws 1) (holds-at ws 2) (holds-at ws 3) (λ i l. list-past ws i (omega arith))
+
+-- four words put at place i of four lists
+module _ (a b c d : List ℕ) (i : ℕ) (u v x y : ℕ) where
+  pub put-same : i < length a → i < length b → i < length c → i < length d
+      → listBits (getD (set a i u) i 0 ∷ getD (set b i v) i 0 ∷ getD (set c i x) i 0 ∷ getD (set d i y) i 0 ∷ []) ≡ listBits (u ∷ v ∷ x ∷ y ∷ [])
+  put-same ha hb hc hd =
+      let ea = getD-set-same a i u 0 ha in
+      let eb = getD-set-same b i v 0 hb in
+      let ec = getD-set-same c i x 0 hc in
+      let ed = getD-set-same d i y 0 hd in
+      λ k. listBits (ea k ∷ eb k ∷ ec k ∷ ed k ∷ [])
+
+  pub put-other : (j : ℕ) → (j ≡ i → ⊥)
+      → listBits (getD (set a i u) j 0 ∷ getD (set b i v) j 0 ∷ getD (set c i x) j 0 ∷ getD (set d i y) j 0 ∷ [])
+      ≡ listBits (getD a j 0 ∷ getD b j 0 ∷ getD c j 0 ∷ getD d j 0 ∷ [])
+  put-other j n =
+      let ea = getD-set-other a i j u 0 n in
+      let eb = getD-set-other b i j v 0 n in
+      let ec = getD-set-other c i j x 0 n in
+      let ed = getD-set-other d i j y 0 n in
+      λ k. listBits (ea k ∷ eb k ∷ ec k ∷ ed k ∷ [])
+
+-- the first state, and one state more
+pub one-state : (f s : ℕ → Bits) → f 0 ≡ s 0 → (k : ℕ) → k ≤ 0 → f k ≡ s k
+one-state f s e k l = let z : k ≡ 0 = omega arith in subst⁻¹ (λ (j : ℕ). f j ≡ s j) z e
+
+pub more-states : (i : ℕ) (f g s : ℕ → Bits) → g (i + 1) ≡ s (i + 1) → ((k : ℕ) → (k ≡ i + 1 → ⊥) → g k ≡ f k) → ((k : ℕ) → k ≤ i → f k ≡ s k)
+    → (k : ℕ) → k ≤ i + 1 → g k ≡ s k
+more-states i f g s e other h = by-place (i + 1) (λ k. k ≤ i + 1 → g k ≡ s k) (λ l. e) (λ k n l. other k n ∙ h k (less k n l))
+  where
+    less : (k : ℕ) → (k ≡ i + 1 → ⊥) → k ≤ i + 1 → k ≤ i
+    less k n l = ⊎-elim (λ (q : k < i + 1). omega arith) (λ (q : i + 1 ≤ k). absurd (n (omega arith))) (below k (i + 1))

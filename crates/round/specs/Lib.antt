@@ -1,0 +1,3 @@
+pub mod Engine
+pub mod Inner
+pub mod Inputs

@@ -1,0 +1,463 @@
+// The engine: LowMC's circuit on words, simulated for three parties and recomputed for two.
+// A row of gates, of a tape or of a transcript, stands at the top of a word. No branch and no index depends on a secret.
+ghost use mathlib.Core.Path.{_≡_};
+ghost use mathlib.Core.Bool.{cond};
+ghost use Prim.Native.Nat.{ℕ, _*_, _≤_, _<_};
+ghost use lib.ListN.{length};
+ghost use Rattle.bits.specs.Bits.{zeros, upTo, from};
+ghost use Rattle.bits.specs.Bytes.{bitsOf, bytesOf};
+ghost use Rattle.bits.specs.Words.{wordBits, blockBits};
+ghost use Rattle.bits.specs.Rows.{Rows, cut, flat, rowsOf, Rowed};
+ghost use Rattle.sets.specs.Sets.{IsSet};
+ghost use Rattle.sets.specs.Lengths.{w, transcript};
+ghost use Rattle.circuit.specs.Lowmc.{start};
+ghost use Rattle.circuit.specs.Round.{Party, next, gates, advance};
+ghost use Rattle.circuit.specs.RoundTheorems.{xor3};
+ghost use Rattle.circuit.specs.Tapes.{number};
+ghost use Rattle.lowmc.specs.Lent.{cipherOf, Lent};
+ghost use Rattle.round.specs.Engine.{share, words, rowOf, tape, Written, opening, Recomputed, stateOf, Traced, Simulated};
+ghost use Rattle.round.specs.Inner.{Begun, Stepped};
+ghost use Rattle.round.specs.Inputs.{byParty, inputShare, Taped, tapesOf, openingOf};
+use bits::Block;
+use bits::Strip;
+use sets::Set;
+
+// A block for each party.
+pub struct Shares {
+    pub a: Block,
+    pub b: Block,
+    pub c: Block,
+}
+
+// A row for each party.
+pub struct Gates {
+    pub a: u64,
+    pub b: u64,
+    pub c: u64,
+}
+
+// Rows for each party.
+pub struct Tapes {
+    pub a: Strip,
+    pub b: Strip,
+    pub c: Strip,
+}
+
+// The first m places of a word.
+fn top(x: u64, m: usize) -> u64
+    requires { ⌜ (0 < m) × (m ≤ 63) ⌝ }
+    ensures { λ r. ⌜ wordBits r ≡ upTo m (wordBits x) ⌝ }
+{
+    let rest = 64 - m;
+    (x >> rest) << rest
+}
+
+// The gates of a layer for a party with the state x and the tape's row t, beside the party with y and u.
+fn gate_row(p: Set, x: Block, y: Block, t: u64, u: u64) -> u64
+    requires { ⌜ IsSet p ⌝ }
+    ensures { λ r. ⌜ wordBits r ≡ upTo (3 * p .s) (gates (blockBits x) (blockBits y) (wordBits t) (wordBits u)) ⌝ }
+{
+    let a = lowmc::left(p, x);
+    let b = lowmc::right(p, x);
+    let c = lowmc::left(p, y);
+    let d = lowmc::right(p, y);
+    top((a & d) ^ (c & b) ^ (a & b) ^ t ^ u, 3 * p.s)
+}
+
+// The gates of a layer for the three parties.
+fn gate_rows(p: Set, s: Shares, t: Gates) -> Gates
+    requires { ⌜ IsSet p ⌝ }
+    ensures { λ r. ⌜ ((j : Party) → rowOf r j ≡ upTo (3 * p .s) (gates (share s j) (share s (next j)) (rowOf t j) (rowOf t (next j)))) ⌝ }
+{
+    let x = s.a;
+    let y = s.b;
+    let z = s.c;
+    Gates {
+        a: gate_row(p, x, y, t.a, t.b),
+        b: gate_row(p, y, z, t.b, t.c),
+        c: gate_row(p, z, x, t.c, t.a),
+    }
+}
+
+// Row i of each tape.
+fn rows_at(t: Tapes, i: usize) -> Gates
+    requires { ⌜ i < 40 ⌝ }
+    ensures { λ r. ⌜ ((j : Party) → rowOf r j ≡ tape t j i) ⌝ }
+{
+    let a = t.a;
+    let b = t.b;
+    let c = t.c;
+    Gates {
+        a: a.words[i],
+        b: b.words[i],
+        c: c.words[i],
+    }
+}
+
+// The public block c for the share that public constants go into, and zero bits for another.
+fn public_part(into: bool, c: Block) -> Block
+    ensures { λ r. ⌜ blockBits r ≡ cond into (blockBits c) zeros ⌝ }
+{
+    if into {
+        return c;
+    }
+    Block::zero()
+}
+
+// A share of the state before the first round.
+fn start_share(
+    p: Set,
+    keys: &[u8],
+    layers: &[u8],
+    constants: &[u8],
+    share: Block,
+    into: bool,
+    plain: Block,
+) -> Block
+    requires { ⌜ Lent p (now keys) (now layers) (now constants) ⌝ }
+    ensures { λ r. ⌜ blockBits r ≡ start (cipherOf p (now (keys .entry)) (now (layers .entry)) (now (constants .entry))) (blockBits share) (cond into (blockBits plain) zeros) ⌝ }
+{
+    lowmc::start(p, keys, share, public_part(into, plain))
+}
+
+// Round i of LowMC on a share: t is that party's row of gates.
+fn advance_share(
+    p: Set,
+    keys: &[u8],
+    layers: &[u8],
+    constants: &[u8],
+    i: usize,
+    share: Block,
+    into: bool,
+    x: Block,
+    t: u64,
+) -> Block
+    requires { ⌜ Lent p (now keys) (now layers) (now constants) × (i < p .r) ⌝ }
+    ensures { λ r. ⌜ blockBits r ≡ advance (cipherOf p (now (keys .entry)) (now (layers .entry)) (now (constants .entry))) i (blockBits share)
+        (cond into (cipherOf p (now (keys .entry)) (now (layers .entry)) (now (constants .entry)) .roundconstant i) zeros) (blockBits x) (wordBits t) ⌝ }
+{
+    let c = public_part(into, lowmc::constant(p, constants, i));
+    lowmc::turn(p, keys, layers, i, share, c, lowmc::sboxes_by(p, x, t))
+}
+
+// What a recomputation leaves: the output shares of the two opened parties, and the first one's transcript.
+pub struct Again {
+    pub first: Block,
+    pub second: Block,
+    pub said: Strip,
+}
+
+// The verifier's recomputation for challenge e: input shares, the rows of the two opened tapes, and the second party's transcript.
+pub fn recompute(
+    p: Set,
+    keys: &[u8],
+    layers: &[u8],
+    constants: &[u8],
+    e: usize,
+    share1: Block,
+    share2: Block,
+    plain: Block,
+    tape1: Strip,
+    tape2: Strip,
+    given: Strip,
+) -> Again
+    requires { ⌜ Lent p (now keys) (now layers) (now constants) ⌝ }
+    ensures { λ r. ⌜ ((j : Party) → e ≡ number j → Recomputed (cipherOf p (now (keys .entry)) (now (layers .entry)) (now (constants .entry))) (blockBits plain) j
+        (opening share1 share2 tape1 tape2 given) r) ⌝ }
+{
+    let r = p.r;
+    let in1 = e == 0;
+    let in2 = e == 2;
+    let mut x = start_share(p, keys, layers, constants, share1, in1, plain);
+    let mut y = start_share(p, keys, layers, constants, share2, in2, plain);
+    let mut words = [0u64; 40];
+    let mut i = 0;
+    while i < r {
+        let g = gate_row(p, x, y, tape1.words[i], tape2.words[i]);
+        words[i] = g;
+        x = advance_share(p, keys, layers, constants, i, share1, in1, x, g);
+        let h = given.words[i];
+        y = advance_share(p, keys, layers, constants, i, share2, in2, y, h);
+        i += 1;
+    }
+    Again {
+        first: x,
+        second: y,
+        said: Strip { words },
+    }
+}
+
+// The encryption's states: a, b, c, d have the four words of the state after each round.
+pub struct Trace {
+    pub a: [u64; 40],
+    pub b: [u64; 40],
+    pub c: [u64; 40],
+    pub d: [u64; 40],
+}
+
+impl Trace {
+    // The state after i rounds.
+    pub fn at(self, i: usize) -> Block
+        requires { ⌜ i < 40 ⌝ }
+        ensures { λ r. ⌜ blockBits r ≡ stateOf self i ⌝ }
+    {
+        Block {
+            words: [self.a[i], self.b[i], self.c[i], self.d[i]],
+        }
+    }
+
+    // x put as the state after i rounds.
+    fn put(self, i: usize, x: Block) -> Self
+        requires { ⌜ i < 40 ⌝ }
+        ensures { λ r. ⌜ (stateOf r i ≡ blockBits x) × ((k : ℕ) → (k ≡ i → ⊥) → stateOf r k ≡ stateOf self k) ⌝ }
+    {
+        let mut a = self.a;
+        let mut b = self.b;
+        let mut c = self.c;
+        let mut d = self.d;
+        a[i] = x.words[0];
+        b[i] = x.words[1];
+        c[i] = x.words[2];
+        d[i] = x.words[3];
+        Trace { a, b, c, d }
+    }
+}
+
+// The encryption of a block under a key with all its states, computed once for all rounds of a signature.
+pub fn all_states(
+    p: Set,
+    keys: &[u8],
+    layers: &[u8],
+    constants: &[u8],
+    key: Block,
+    block: Block,
+) -> Trace
+    requires { ⌜ Lent p (now keys) (now layers) (now constants) ⌝ }
+    ensures { λ r. ⌜ Traced (cipherOf p (now (keys .entry)) (now (layers .entry)) (now (constants .entry))) (blockBits key) (blockBits block) r ⌝ }
+{
+    let r = p.r;
+    let none = Trace {
+        a: [0; 40],
+        b: [0; 40],
+        c: [0; 40],
+        d: [0; 40],
+    };
+    let mut x = lowmc::start(p, keys, key, block);
+    let mut t = none.put(0, x);
+    let mut i = 0;
+    while i < r {
+        x = lowmc::step(p, keys, layers, constants, i, key, x);
+        i += 1;
+        t = t.put(i, x);
+    }
+    t
+}
+
+// The three states before the first round. The third is what the first two lack of the encryption's: a product less.
+fn begin(
+    p: Set,
+    keys: &[u8],
+    layers: &[u8],
+    constants: &[u8],
+    x: Shares,
+    plain: Block,
+    whole: Block,
+) -> Shares
+    requires { ⌜ Lent p (now keys) (now layers) (now constants) ⌝ }
+    ensures { λ r. ⌜ Begun (cipherOf p (now (keys .entry)) (now (layers .entry)) (now (constants .entry))) (blockBits plain) (share x) (blockBits whole) (share r) ⌝ }
+{
+    let xa = x.a;
+    let xb = x.b;
+    let a = start_share(p, keys, layers, constants, xa, true, plain);
+    let b = start_share(p, keys, layers, constants, xb, false, plain);
+    let c = whole.xor(a.xor(b));
+    Shares { a, b, c }
+}
+
+// Round i for the three: x are the input shares, s the states, g the rows of gates, whole the encryption's state after the round.
+fn step(
+    p: Set,
+    keys: &[u8],
+    layers: &[u8],
+    constants: &[u8],
+    i: usize,
+    x: Shares,
+    s: Shares,
+    g: Gates,
+    whole: Block,
+) -> Shares
+    requires { ⌜ Lent p (now keys) (now layers) (now constants) × (i < p .r) ⌝ }
+    ensures { λ r. ⌜ Stepped (cipherOf p (now (keys .entry)) (now (layers .entry)) (now (constants .entry))) i (share x) (share s) (rowOf g) (blockBits whole) (share r) ⌝ }
+{
+    let xa = x.a;
+    let xb = x.b;
+    let sa = s.a;
+    let sb = s.b;
+    let a = advance_share(p, keys, layers, constants, i, xa, true, sa, g.a);
+    let b = advance_share(p, keys, layers, constants, i, xb, false, sb, g.b);
+    let c = whole.xor(a.xor(b));
+    Shares { a, b, c }
+}
+
+// What a simulation leaves: the output shares and the transcripts.
+pub struct View {
+    pub out: Shares,
+    pub said: Tapes,
+}
+
+// The signer's simulation: input shares, the rows of the tapes, and the states of the encryption under the key that is shared.
+pub fn simulate(
+    p: Set,
+    keys: &[u8],
+    layers: &[u8],
+    constants: &[u8],
+    x: Shares,
+    plain: Block,
+    t: Tapes,
+    states: Trace,
+) -> View
+    requires { ⌜ Lent p (now keys) (now layers) (now constants)
+        × Traced (cipherOf p (now keys) (now layers) (now constants)) (xor3 (share x)) (blockBits plain) states ⌝ }
+    ensures { λ r. ⌜ Simulated (cipherOf p (now (keys .entry)) (now (layers .entry)) (now (constants .entry))) (blockBits plain) (share x) (tape t) r ⌝ }
+{
+    let r = p.r;
+    let mut s = begin(p, keys, layers, constants, x, plain, states.at(0));
+    let mut a = [0u64; 40];
+    let mut b = [0u64; 40];
+    let mut c = [0u64; 40];
+    let mut i = 0;
+    while i < r {
+        let g = gate_rows(p, s, rows_at(t, i));
+        a[i] = g.a;
+        b[i] = g.b;
+        c[i] = g.c;
+        s = step(p, keys, layers, constants, i, x, s, g, states.at(i + 1));
+        i += 1;
+    }
+    let ta = Strip { words: a };
+    let tb = Strip { words: b };
+    let tc = Strip { words: c };
+    let said = Tapes {
+        a: ta,
+        b: tb,
+        c: tc,
+    };
+    View { out: s, said }
+}
+
+// The rows of gates from bit at of s on.
+pub fn rows_from(p: Set, s: &[u8], at: usize) -> Strip
+    requires { ⌜ IsSet p × (at ≤ p .n) ⌝ }
+    ensures { λ r. ⌜ ((i : ℕ) → i < p .r → rowsOf (r .words) i ≡ cut (3 * p .s) (from at (bitsOf (now (s .entry)))) i) ⌝ }
+{
+    Strip::read(s, at, 3 * p.s, p.r)
+}
+
+// The rows of the gates of party k on its tape: from bit n on for parties 0 and 1, from bit 0 on for party 2.
+pub fn tape_rows(p: Set, k: usize, tape: &[u8]) -> Strip
+    requires { ⌜ IsSet p ⌝ }
+    ensures { λ r. ⌜ ((j : Party) → k ≡ number j → Taped p j (now (tape .entry)) (r .words)) ⌝ }
+{
+    if k == 2 {
+        return rows_from(p, tape, 0);
+    }
+    rows_from(p, tape, p.n)
+}
+
+// The rows of the three tapes.
+pub fn read_tapes(p: Set, t0: &[u8], t1: &[u8], t2: &[u8]) -> Tapes
+    requires { ⌜ IsSet p ⌝ }
+    ensures { λ r. ⌜ ((j : Party) → Taped p j (byParty (now (t0 .entry)) (now (t1 .entry)) (now (t2 .entry)) j) (words r j)) ⌝ }
+{
+    let a = tape_rows(p, 0, t0);
+    let b = tape_rows(p, 1, t1);
+    let c = tape_rows(p, 2, t2);
+    Tapes { a, b, c }
+}
+
+// The share that is the first n bits of a tape.
+pub fn tape_share(p: Set, tape: &[u8]) -> Block
+    requires { ⌜ IsSet p × (w p ≤ length (now tape)) ⌝ }
+    ensures { λ r. ⌜ blockBits r ≡ upTo (p .n) (bitsOf (now (tape .entry))) ⌝ }
+{
+    let w = p.width();
+    Block::load(&tape[0..w])
+}
+
+// The input shares of a key: two from the tapes 0 and 1, the third by exclusive or.
+pub fn input_shares(p: Set, key: Block, t0: &[u8], t1: &[u8]) -> Shares
+    requires { ⌜ IsSet p × (w p ≤ length (now t0)) × (w p ≤ length (now t1)) ⌝ }
+    ensures { λ r. ⌜ ((j : Party) → share r j ≡ inputShare (p .n) (blockBits key) (now (t0 .entry)) (now (t1 .entry)) j) ⌝ }
+{
+    let a = tape_share(p, t0);
+    let b = tape_share(p, t1);
+    let c = key.xor(a.xor(b));
+    Shares { a, b, c }
+}
+
+// The transcript t as bytes, with zero bits to the byte.
+pub fn write_rows(p: Set, t: Strip, s: &mut [u8])
+    requires { ⌜ IsSet p × (length (now s) ≡ transcript p) × Rowed (3 * p .s) (p .r) (t .words) ⌝ }
+    ensures { λ _. ⌜ ((u : Rows) → Written (3 * p .s) (p .r) u (t .words) → now (s .exit) ≡ bytesOf (3 * p .s * p .r) (flat (3 * p .s) u)) ⌝ }
+{
+    t.write(3 * p.s, p.r, s);
+}
+
+// The signer's simulation from the bytes of the tapes.
+pub fn simulate_tapes(
+    p: Set,
+    keys: &[u8],
+    layers: &[u8],
+    constants: &[u8],
+    x: Shares,
+    plain: Block,
+    t0: &[u8],
+    t1: &[u8],
+    t2: &[u8],
+    states: Trace,
+) -> View
+    requires { ⌜ Lent p (now keys) (now layers) (now constants)
+        × Traced (cipherOf p (now keys) (now layers) (now constants)) (xor3 (share x)) (blockBits plain) states ⌝ }
+    ensures { λ r. ⌜ Simulated (cipherOf p (now (keys .entry)) (now (layers .entry)) (now (constants .entry))) (blockBits plain) (share x)
+        (tapesOf (cipherOf p (now (keys .entry)) (now (layers .entry)) (now (constants .entry))) (now (t0 .entry)) (now (t1 .entry)) (now (t2 .entry))) r ⌝ }
+{
+    let t = read_tapes(p, t0, t1, t2);
+    simulate(p, keys, layers, constants, x, plain, t, states)
+}
+
+// The verifier's recomputation from the bytes of two tapes and of a transcript.
+pub fn recompute_tapes(
+    p: Set,
+    keys: &[u8],
+    layers: &[u8],
+    constants: &[u8],
+    e: usize,
+    share1: Block,
+    share2: Block,
+    plain: Block,
+    tape1: &[u8],
+    tape2: &[u8],
+    given: &[u8],
+) -> Again
+    requires { ⌜ Lent p (now keys) (now layers) (now constants) × (e < 3) ⌝ }
+    ensures { λ r. ⌜ ((j : Party) → e ≡ number j → Recomputed (cipherOf p (now (keys .entry)) (now (layers .entry)) (now (constants .entry))) (blockBits plain) j
+        (openingOf (cipherOf p (now (keys .entry)) (now (layers .entry)) (now (constants .entry))) j (blockBits share1) (blockBits share2)
+        (now (tape1 .entry)) (now (tape2 .entry)) (now (given .entry))) r) ⌝ }
+{
+    let a = tape_rows(p, e, tape1);
+    let b = tape_rows(p, (e + 1) % 3, tape2);
+    let c = rows_from(p, given, 0);
+    recompute(
+        p,
+        keys,
+        layers,
+        constants,
+        e,
+        share1,
+        share2,
+        plain,
+        a,
+        b,
+        c,
+    )
+}
