@@ -1,0 +1,63 @@
+-- 01's examples, computed.
+use mathlib.Core.Path.{_≡_, refl, ap}
+use mathlib.Core.List.{[], _∷_, _++_}
+use Prim.Native.Nat.{ℕ, zero, suc, _+_, _*_}
+use native.Mathlib.Omega.{arith}
+use lib.ListN.{take, replicate}
+use Rattle.slices.specs.Slices.{joined}
+use Rattle.bits.specs.Bits.{upTo}
+use Rattle.bits.specs.Bytes.{odd, bit, bitsOf, value, bytes, width, bytesOf}
+use Rattle.sets.specs.declared.Set.{Set}
+use Rattle.sets.specs.Sets.{l1}
+use Rattle.sets.proofs.Each.{each}
+use Rattle.answers.specs.Answers.{first}
+use Rattle.answers.specs.Outcome.{unless}
+use Rattle.shape.specs.Fields.{sizes, unpack, all, padded, clean}
+use Rattle.shape.specs.Header.{place, pairBits, headerOf, valueAt, values}
+use Rattle.shape.specs.Rounds.{round, rounds, signatureLength}
+use Rattle.shape.specs.Form.{form}
+use Rattle.shape.specs.Reading.{headerWrong, paddingWrong, readChecks, reading}
+use Rattle.shape.specs.Examples.{P12, LengthsOfSet1, LastHeaderByte, OneByteShort, ZerosAreRead, LowBitOfTranscript}
+use Rattle.shape.proofs.FieldLaws.{sizes-append}
+use Rattle.shape.proofs.RoundsLaws.{sizes-other, rounds-append}
+
+pub p12 : P12
+unfolding P12 headerOf bytesOf bytes joined upTo pairBits place bit odd value width
+p12 p q vs = each (λ (p : Set). take 1 (headerOf p (0 ∷ 1 ∷ 2 ∷ 0 ∷ vs)) ≡ 0x18 ∷ []) refl refl refl q
+
+pub last-header-byte : LastHeaderByte
+unfolding LastHeaderByte odd bit bitsOf value width joined all padded place valueAt values headerWrong readChecks reading first unless
+last-header-byte = (refl, (refl, refl))
+
+zero-rounds : (k : ℕ) → sizes (rounds l1 (replicate k 0)) ≡ k * 139
+unfolding rounds sizes round width
+zero-rounds zero = refl
+zero-rounds (suc k) = omega (arith, sizes-append (rounds l1 (replicate k 0)) (round l1 0), zero-rounds k)
+
+pub lengths-of-set-1 : LengthsOfSet1
+unfolding LengthsOfSet1 rounds sizes width
+lengths-of-set-1 = (omega (arith, zero-rounds 219), one)
+  where
+    one : (k j e : ℕ) → k + (1 + j) ≡ 219 → (e ≡ 0 → ⊥) → signatureLength l1 (replicate k 0 ++ (e ∷ replicate j 0)) ≡ 30544
+    one k j e h z =
+        omega (
+          arith,
+          ap sizes (rounds-append l1 (replicate k 0) (e ∷ replicate j 0)),
+          sizes-append (rounds l1 (e ∷ replicate j 0)) (rounds l1 (replicate k 0)),
+          sizes-append (rounds l1 (replicate j 0)) (round l1 e),
+          sizes-other l1 e z,
+          zero-rounds k,
+          zero-rounds j,
+        )
+
+pub one-byte-short : OneByteShort
+unfolding OneByteShort odd bit bitsOf value width joined all padded place valueAt values headerWrong readChecks reading first unless sizes round rounds
+one-byte-short = refl
+
+pub zeros-are-read : ZerosAreRead
+unfolding ZerosAreRead odd bit bitsOf value width joined all padded place valueAt values headerWrong readChecks reading first unless sizes round rounds paddingWrong clean form unpack
+zeros-are-read = refl
+
+pub low-bit-of-transcript : LowBitOfTranscript
+unfolding LowBitOfTranscript odd bit bitsOf value width joined all padded place valueAt values headerWrong readChecks reading first unless sizes round rounds paddingWrong clean
+low-bit-of-transcript = refl

@@ -1,0 +1,226 @@
+-- Laws of the header: the values of a header, and the header of values.
+use mathlib.Core.Path.{_≡_, refl, sym, ap, ap₂, _∙_}
+use mathlib.Core.Logic.{⊎-elim}
+use mathlib.Core.Bool.{Bool, true, false}
+use mathlib.Core.List.{List, [], _∷_, _++_}
+use Prim.Native.Nat.{ℕ, zero, suc, _+_, _*_, _-_, _/_, _%_, _^_, _≤_, _<_}
+use native.Mathlib.Omega.{arith}
+use native.Mathlib.Nat.{mul-one}
+use lib.Dec.{lit<}
+use lib.Pow.{shr-shr}
+use lib.ListN.{length, getD, take, List·getD-append, List·getD-eq-default}
+use lib.Seq.{getD-append-add, ext-getD}
+use Rattle.slices.specs.Slices.{Bytes, joined}
+use Rattle.slices.proofs.SliceLaws.{length-joined}
+use Rattle.bits.specs.Bits.{Bits, from, upTo}
+use Rattle.bits.specs.Bytes.{odd, bit, bitsOf, digit, value}
+use Rattle.bits.proofs.BitsLaws.{upTo-in, upTo-out}
+use Rattle.bits.proofs.NumberLaws.{below, digit-odd, bit-zero, value-cong, value-add}
+use Rattle.bits.proofs.BytesLaws.{at-bit, length-bytesOf, bytesOf-cong, bits-of-bytesOf, packed, packed-bytes}
+use Rattle.sets.specs.declared.Set.{Set}
+use Rattle.sets.specs.Lengths.{header}
+use Rattle.shape.specs.Fields.{padded}
+use Rattle.shape.specs.Header.{place, pairBits, headerOf, valueAt, values}
+use Rattle.shape.specs.RoundTrips.{AreBytes}
+use Rattle.shape.proofs.PaddingLaws.{bits-front, bits-take, width-room, padded-front, packed-padded, padded-packed, bytes-part}
+
+-- ---- the two bits of a value: by computing, whichever stands first
+
+place-below : (b : ℕ) → b < 2 → place b < 2
+unfolding place
+place-below zero h = lit< tt
+place-below (suc zero) h = lit< tt
+place-below (suc (suc b)) h = absurd (omega arith)
+
+place-place : (b : ℕ) → b < 2 → place (place b) ≡ b
+unfolding place
+place-place zero h = refl
+place-place (suc zero) h = refl
+place-place (suc (suc b)) h = absurd (omega arith)
+
+low-of-two : (a b : Bool) → bit (2 * digit a + digit b) 0 ≡ b
+unfolding bit odd
+low-of-two true true = refl
+low-of-two true false = refl
+low-of-two false true = refl
+low-of-two false false = refl
+
+high-of-two : (a b : Bool) → bit (2 * digit a + digit b) 1 ≡ a
+unfolding bit odd
+high-of-two true true = refl
+high-of-two true false = refl
+high-of-two false true = refl
+high-of-two false false = refl
+
+two-of-value : (v : ℕ) → v < 4 → 2 * digit (bit v 1) + digit (bit v 0) ≡ v
+unfolding bit odd
+two-of-value zero h = refl
+two-of-value (suc zero) h = refl
+two-of-value (suc (suc zero)) h = refl
+two-of-value (suc (suc (suc zero))) h = refl
+two-of-value (suc (suc (suc (suc v)))) h = absurd (omega arith)
+
+-- ---- the values of a header
+
+-- numbers one after the other
+pub getD-joined : (f : ℕ → ℕ) (n k : ℕ) → k < n → getD (joined n (λ i. f i ∷ [])) k 0 ≡ f k
+unfolding joined
+getD-joined f zero k h = absurd (omega arith)
+getD-joined f (suc n) k h =
+    ⊎-elim (λ (q : k < n). List·getD-append (joined n (λ i. f i ∷ [])) _ 0 k (omega (arith, l)) ∙ getD-joined f n k q)
+    (λ (q : n ≤ k).
+    let e : k ≡ length (joined n (λ i. f i ∷ [])) + 0 = omega (arith, l) in
+    let d : n ≡ k = omega arith in
+    ap (λ (i : ℕ). getD (joined (suc n) (λ i. f i ∷ [])) i 0) e ∙ (getD-append-add (joined n (λ i. f i ∷ [])) _ 0 0 ∙ ap f d))
+    (below k n)
+  where
+    l : length (joined n (λ i. f i ∷ [])) ≡ n
+    l = length-joined 1 (λ i. f i ∷ []) (λ i. refl) n ∙ mul-one n
+
+pub length-values : (p : Set) (s : Bytes) → length (values p s) ≡ p .t
+unfolding values
+length-values p s = length-joined 1 (λ k. valueAt s k ∷ []) (λ i. refl) (p .t) ∙ mul-one (p .t)
+
+pub getD-values : (p : Set) (s : Bytes) (k : ℕ) → k < p .t → getD (values p s) k 0 ≡ valueAt s k
+unfolding values
+getD-values p s k h = getD-joined (valueAt s) (p .t) k h
+
+-- a value is read off its two bits
+value-bits : (s x : Bytes) (k : ℕ) → ((b : ℕ) → b < 2 → bitsOf s (2 * k + b) ≡ bitsOf x (2 * k + b)) → valueAt s k ≡ valueAt x k
+unfolding valueAt
+value-bits s x k h =
+    ap₂ (λ (a b : Bool). 2 * digit a + digit b) (h (place 1) (place-below 1 (omega arith))) (h (place 0) (place-below 0 (omega arith)))
+
+-- in particular off the first bytes
+pub value-front : (a b : Bytes) (k : ℕ) → 2 * k + 2 ≤ 8 * length a → valueAt (a ++ b) k ≡ valueAt a k
+value-front a b k h = value-bits (a ++ b) a k (λ i l. bits-front a b (2 * k + i) (omega arith))
+
+bit-of-value : (s : Bytes) (k b : ℕ) → b < 2 → bit (valueAt s k) b ≡ bitsOf s (2 * k + place b)
+unfolding valueAt
+bit-of-value s k zero h = low-of-two (bitsOf s (2 * k + place 1)) (bitsOf s (2 * k + place 0))
+bit-of-value s k (suc zero) h = high-of-two (bitsOf s (2 * k + place 1)) (bitsOf s (2 * k + place 0))
+bit-of-value s k (suc (suc b)) h = absurd (omega arith)
+
+-- the bits of the values are those of the header
+pairs-of-values : (p : Set) (s : Bytes) (i : ℕ) → i < 2 * p .t → pairBits (values p s) i ≡ bitsOf s i
+unfolding pairBits
+pairs-of-values p s i h =
+    let j = i % 2 in
+    let e : 2 * (i / 2) + j ≡ i = omega arith in
+    ap (λ (v : ℕ). bit v (place j)) (getD-values p s (i / 2) (omega arith))
+    ∙ (bit-of-value s (i / 2) (place j) (place-below j (omega arith))
+    ∙ ap (bitsOf s) (ap (λ (n : ℕ). 2 * (i / 2) + n) (place-place j (omega arith)) ∙ e))
+
+-- ---- the header of values
+
+pub length-header : (p : Set) (vs : List ℕ) → length (headerOf p vs) ≡ header p
+unfolding headerOf
+length-header p vs = length-bytesOf (2 * p .t) (pairBits vs)
+
+-- what is read off a header is written again as the same bytes
+pub header-of-values : (p : Set) (s : Bytes) → AreBytes s → header p ≤ length s → padded (2 * p .t) s ≡ true
+    → headerOf p (values p s) ≡ take (header p) s
+unfolding headerOf
+header-of-values p s small h e =
+    bytesOf-cong (2 * p .t) _ _ (λ i l. pairs-of-values p s i l ∙ sym (bits-take (header p) s i (omega (arith, width-room (2 * p .t)))))
+    ∙ packed-bytes (2 * p .t) (take (header p) s) (padded-packed (2 * p .t) s e (bytes-part s 0 (header p) small) h)
+
+module _ (p : Set) (vs : List ℕ) (rest : Bytes) where
+  -- a bit of a header
+  bit-of-header : (k b : ℕ) → k < p .t → b < 2 → bitsOf (headerOf p vs ++ rest) (2 * k + b) ≡ bit (getD vs k 0) (place b)
+  unfolding headerOf pairBits
+  bit-of-header k b h l =
+      let d : (2 * k + b) / 2 ≡ k = omega arith in
+      let m : (2 * k + b) % 2 ≡ b = omega arith in
+      bits-front (headerOf p vs) rest (2 * k + b) (omega (arith, length-header p vs, width-room (2 * p .t)))
+      ∙ (ap (λ (f : Bits). f (2 * k + b)) (bits-of-bytesOf (2 * p .t) (pairBits vs))
+      ∙ (upTo-in (2 * p .t) (pairBits vs) (2 * k + b) (omega arith) ∙ ap₂ (λ (i j : ℕ). bit (getD vs i 0) (place j)) d m))
+
+  -- what is written into a header is read again
+  pub value-of-header : (k : ℕ) → k < p .t → getD vs k 0 < 4 → valueAt (headerOf p vs ++ rest) k ≡ getD vs k 0
+  unfolding valueAt
+  value-of-header k h l =
+      ap₂ (λ (a b : Bool). 2 * digit a + digit b) (there 1 (omega arith)) (there 0 (omega arith)) ∙ two-of-value (getD vs k 0) l
+    where
+      there : (b : ℕ) → b < 2 → bitsOf (headerOf p vs ++ rest) (2 * k + place b) ≡ bit (getD vs k 0) b
+      there b q = bit-of-header k (place b) h (place-below b q) ∙ ap (bit (getD vs k 0)) (place-place b q)
+
+  pub values-of-header : length vs ≡ p .t → ((k : ℕ) → getD vs k 0 < 4) → values p (headerOf p vs ++ rest) ≡ vs
+  values-of-header e small =
+      ext-getD 0 (values p (headerOf p vs ++ rest)) vs (length-values p _ ∙ sym e)
+      (λ k l.
+      let h : k < p .t = omega (arith, length-values p (headerOf p vs ++ rest)) in
+      getD-values p _ k h ∙ value-of-header k h (small k))
+
+  -- and its padding is zero
+  pub padded-header : padded (2 * p .t) (headerOf p vs ++ rest) ≡ true
+  unfolding headerOf
+  padded-header =
+      padded-front (2 * p .t) (headerOf p vs) rest (length-header p vs)
+      ∙ packed-padded (2 * p .t) (headerOf p vs) (packed (2 * p .t) (pairBits vs))
+
+-- ---- as code goes: by bytes
+
+-- a value from the byte that holds it
+pub value-in-byte : (s : Bytes) (k : ℕ) → getD s (k / 4) 0 / 2 ^ (6 - 2 * (k % 4)) % 4 ≡ valueAt s k
+unfolding valueAt place bit
+value-in-byte s k =
+    let v = getD s (k / 4) 0 in
+    let j = 2 * (k % 4) in
+    let lo : bitsOf s (2 * k + 1) ≡ bit v (6 - j) =
+    ap (bitsOf s) (omega arith) ∙ (at-bit s (k / 4) (j + 1) (omega arith) ∙ ap (bit v) (omega arith)) in
+    let hi : bitsOf s (2 * k + 0) ≡ bit v (6 - j + 1) =
+    ap (bitsOf s) (omega arith) ∙ (at-bit s (k / 4) j (omega arith) ∙ ap (bit v) (omega arith)) in
+    let two : v / 2 ^ (6 - j) / 2 ≡ v / 2 ^ (6 - j + 1) = shr-shr v (6 - j) 1 in
+    let x : ℕ = v / 2 ^ (6 - j) in
+    let y : ℕ = v / 2 ^ (6 - j + 1) in
+    let four : x % 4 ≡ 2 * (x / 2 % 2) + x % 2 = omega arith in
+    four ∙ (ap₂ (λ (a b : ℕ). 2 * (a % 2) + b) two (digit-odd x)
+    ∙ (ap (λ (a : ℕ). 2 * a + digit (odd x)) (digit-odd y) ∙ sym (ap₂ (λ (a b : Bool). 2 * digit a + digit b) hi lo)))
+
+-- two bits of a header are a value; past the last there are none
+pair-value : (p : Set) (vs : List ℕ) (k : ℕ) → length vs ≡ p .t → getD vs k 0 < 4
+    → value 2 (from (2 * k) (upTo (2 * p .t) (pairBits vs))) ≡ getD vs k 0
+unfolding value pairBits place
+pair-value p vs k e h =
+    ap₂ (λ (a b : Bool). (0 * 2 + digit a) * 2 + digit b) (there 0 (omega arith)) (there 1 (omega arith))
+    ∙ (omega arith ∙ two-of-value (getD vs k 0) h)
+  where
+    there : (b : ℕ) → b < 2 → upTo (2 * p .t) (pairBits vs) (2 * k + b) ≡ bit (getD vs k 0) (1 - b)
+    there b l =
+        let d : (2 * k + b) / 2 ≡ k = omega arith in
+        let m : (2 * k + b) % 2 ≡ b = omega arith in
+        ⊎-elim
+        (λ (q : k < p .t). upTo-in (2 * p .t) (pairBits vs) (2 * k + b) (omega arith) ∙ ap₂ (λ (i j : ℕ). bit (getD vs i 0) (1 - j)) d m)
+        (λ (q : p .t ≤ k).
+        upTo-out (2 * p .t) (pairBits vs) (2 * k + b) (omega arith)
+        ∙ sym (ap (λ (v : ℕ). bit v (1 - b)) (List·getD-eq-default vs 0 (omega arith)) ∙ bit-zero (1 - b)))
+        (below k (p .t))
+
+-- a byte of a header is made of four values
+pub header-byte : (p : Set) (vs : List ℕ) (i : ℕ) → length vs ≡ p .t → ((k : ℕ) → getD vs k 0 < 4)
+    → getD vs (4 * i) 0 * 64 + getD vs (4 * i + 1) 0 * 16 + getD vs (4 * i + 2) 0 * 4 + getD vs (4 * i + 3) 0
+    ≡ value 8 (from (8 * i) (upTo (2 * p .t) (pairBits vs)))
+header-byte p vs i e small =
+    let x1 : Bits = from 2 x in
+    let x2 : Bits = from 2 x1 in
+    let x3 : Bits = from 2 x2 in
+    omega (
+      arith,
+      value-add 2 6 x,
+      value-add 2 4 x1,
+      value-add 2 2 x2,
+      pair x (4 * i) (λ j. ap y (omega arith)),
+      pair x1 (4 * i + 1) (λ j. ap y (omega arith)),
+      pair x2 (4 * i + 2) (λ j. ap y (omega arith)),
+      pair x3 (4 * i + 3) (λ j. ap y (omega arith)),
+    )
+  where
+    y : Bits
+    y = upTo (2 * p .t) (pairBits vs)
+
+    x : Bits
+    x = from (8 * i) y
+
+    pair : (f : Bits) (k : ℕ) → ((j : ℕ) → f j ≡ y (2 * k + j)) → value 2 f ≡ getD vs k 0
+    pair f k g = value-cong 2 f (from (2 * k) y) (λ j l. g j) ∙ pair-value p vs k e (small k)

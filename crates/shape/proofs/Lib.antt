@@ -1,0 +1,13 @@
+pub mod PaddingLaws
+pub mod FieldLaws
+pub mod PartLaws
+pub mod HeaderLaws
+pub mod RoundsLaws
+pub mod RoundLaws
+pub mod ReadingLaws
+pub mod RoundTripsProof
+pub mod FormLaws
+pub mod ShownLaws
+pub mod SetFacts
+pub mod FitLaws
+pub mod ExamplesProof

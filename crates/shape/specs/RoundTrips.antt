@@ -1,0 +1,32 @@
+-- What reading and writing are to each other, for any set: statements.
+use mathlib.Core.Path.{_≡_}
+use Prim.Native.Nat.{ℕ, _<_}
+use lib.ListN.{getD}
+use Rattle.slices.specs.Slices.{Bytes}
+use Rattle.sets.specs.declared.Set.{Set}
+use Rattle.answers.specs.Outcome.{gives}
+use Rattle.shape.specs.Reading.{reading, writing}
+
+-- numbers that are bytes
+abbrev pub AreBytes : Bytes → Type 0
+AreBytes s = (k : ℕ) → getD s k 0 < 256
+
+-- what is read is written again as the same bytes
+unfoldable pub ReadIsWritten : Type 0
+ReadIsWritten = (p : Set) (s x : Bytes) → AreBytes s → reading p s ≡ gives x → writing p x ≡ gives s
+
+-- what is written reads back as the same form
+unfoldable pub WrittenIsRead : Type 0
+WrittenIsRead = (p : Set) (x s : Bytes) → writing p x ≡ gives s → reading p s ≡ gives x
+
+-- a string has at most one reading
+unfoldable pub OneReading : Type 0
+OneReading = (p : Set) (s x y : Bytes) → reading p s ≡ gives x → reading p s ≡ gives y → x ≡ y
+
+-- two different strings never have the same reading: one signature has one form
+unfoldable pub OneString : Type 0
+OneString = (p : Set) (r s x : Bytes) → AreBytes r → AreBytes s → reading p r ≡ gives x → reading p s ≡ gives x → r ≡ s
+
+-- two different forms are never written as the same signature
+unfoldable pub OneForm : Type 0
+OneForm = (p : Set) (x y s : Bytes) → writing p x ≡ gives s → writing p y ≡ gives s → x ≡ y

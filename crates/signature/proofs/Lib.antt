@@ -1,0 +1,4 @@
+pub mod TestLaws
+pub mod UnpackLaws
+pub mod PackLaws
+pub mod CallLaws
