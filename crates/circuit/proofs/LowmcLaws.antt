@@ -9,7 +9,7 @@ use borrow.Author.Tests.{lt-ltb, le-ltb}
 use Rattle.bits.specs.Bits.{_⊻_, Bits, Agree}
 use Rattle.bits.proofs.BitsLaws.{xor-false, ⊕-at}
 use Rattle.circuit.specs.Lowmc.{Cipher, Three, sbox, threeAt, inThree, placed, sboxes, start, step, stateAfter, encryption}
-use Rattle.circuit.proofs.MatricesLaws.{product-past}
+use Rattle.circuit.proofs.MatricesLaws.{product-past, product-cong}
 
 -- ---- places in threes
 
@@ -107,3 +107,14 @@ module _ (C : Cipher) (key p : Bits) where
     pub encryption-past : (i : ℕ) → C .n ≤ i → encryption C key p i ≡ false
     unfolding encryption
     encryption-past = state-past (C .r)
+
+-- an encryption asks for the first n bits of the key alone
+module _ (C : Cipher) (key key′ p : Bits) (h : Agree (C .n) key key′) where
+  state-cong : (i : ℕ) → stateAfter C key p i ≡ stateAfter C key′ p i
+  unfolding stateAfter start step
+  state-cong zero = rw (product-cong (C .n) (C .Kmatrix 0) key key′ h)
+  state-cong (suc i) = rw (state-cong i, product-cong (C .n) (C .Kmatrix (i + 1)) key key′ h)
+
+  pub encryption-cong : encryption C key p ≡ encryption C key′ p
+  unfolding encryption
+  encryption-cong = state-cong (C .r)

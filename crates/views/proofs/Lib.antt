@@ -1,0 +1,3 @@
+pub mod PartiesLaws
+pub mod BytesOfRows
+pub mod CompleteProof

@@ -1,0 +1,5 @@
+pub mod Parties
+pub mod Signed
+pub mod Opened
+pub mod Input
+pub mod Complete
