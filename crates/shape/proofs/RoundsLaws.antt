@@ -13,10 +13,10 @@ use borrow.Author.Tests.{eq-eqb, ne-eqb, eqb-true, eqb-false}
 use Rattle.bits.specs.Bytes.{width}
 use Rattle.sets.specs.declared.Set.{Set}
 use Rattle.sets.specs.Lengths.{salt, header, roundLeast, roundMost, longest}
-use Rattle.shape.specs.Fields.{Field, sizes, slots}
+use Rattle.shape.specs.Fields.{Field, sizes}
 use Rattle.shape.specs.Rounds.{always, round, rounds, fields, signatureLength, start}
 use Rattle.shape.proofs.PaddingLaws.{width-whole}
-use Rattle.shape.proofs.FieldLaws.{sizes-append, slots-append}
+use Rattle.shape.proofs.FieldLaws.{slots, sizes-append, slots-append}
 
 width-none : width 0 ≡ 0
 unfolding width
