@@ -1,15 +1,14 @@
-// Reads a signature of set 1 on standard input and prints its layout: the set and the length, then how many values are 0, 1 and 2;
-// or the number with which it is refused. The buffer holds more than the longest signature, so that input that it cuts off is
-// refused with the same number as the whole of it.
+// Reads a signature of set 1 on standard input and prints its layout: the set and the length, then how many values are 0, 1
+// and 2; or the number with which it is refused. A buffer holds more than the longest signature, so that input that it cuts
+// off is refused with the same number as the whole of it.
 ghost use mathlib.Core.Path.{_≡_};
 ghost use Rattle.layout.specs.Counts.{howMany};
 use libc::STDIN_FILENO;
 use libc::STDOUT_FILENO;
+use sets::Set;
 
-// The unpacked form of set 1, and its values.
-const FORM: usize = 34_196;
-
-const VALUES: usize = 219;
+// The values that an unpacked form of set 1 starts with.
+const VALUES: usize = Set::L1.t;
 
 // How many of the values are v.
 fn count(values: &[u8], v: u8) -> usize
@@ -35,7 +34,7 @@ fn field(n: usize, end: u8) {
 fn main() {
     let mut input = io::large_buffer();
     let n = io::read_full(STDIN_FILENO, &mut input);
-    let mut form = [0u8; FORM];
+    let mut form = io::large_buffer();
     let answer = signature::read(1, &input[..n], &mut form);
     let refusal = (answer / 0x1_0000_0000) as usize;
     if refusal != 0 {

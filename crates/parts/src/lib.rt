@@ -280,7 +280,8 @@ pub fn put_round(
     ensures { λ n. ⌜
         (n ≡ at + sizes (round p e))
         × (now (output .exit) ≡ put (now (output .entry)) at
-        (roundOf p e (showing (now (commitment .entry)) (now (transcript .entry)) (now (seed1 .entry)) (now (seed2 .entry)) (now (share .entry)))))
+        (roundOf p e
+        (showing (now (commitment .entry)) (now (transcript .entry)) (now (seed1 .entry)) (now (seed2 .entry)) (now (share .entry)))))
         ⌝ }
 {
     put_four(commitment, transcript, seed1, seed2, output, at);

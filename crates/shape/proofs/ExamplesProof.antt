@@ -17,7 +17,7 @@ use Rattle.shape.specs.Header.{place, pairBits, headerOf, valueAt, value
 use Rattle.shape.specs.Rounds.{round, rounds, signatureLength}
 use Rattle.shape.specs.Form.{form}
 use Rattle.shape.specs.Reading.{headerWrong, paddingWrong, readChecks, reading}
-use Rattle.shape.specs.Examples.{P12, LengthsOfSet1, LastHeaderByte, OneByteShort, ZerosAreRead, LowBitOfTranscript}
+use Rattle.shape.specs.Examples.{P12, LengthsOfSet1, LastHeaderByte, OneByteShort, OneByteLong, ZerosAreRead, LowBitOfTranscript}
 use Rattle.shape.proofs.FieldLaws.{sizes-append}
 use Rattle.shape.proofs.RoundsLaws.{sizes-other, rounds-append}
 
@@ -53,6 +53,10 @@ lengths-of-set-1 = (omega (arith, zero-rounds 219), one)
 pub one-byte-short : OneByteShort
 unfolding OneByteShort odd bit bitsOf value width joined all padded place valueAt values headerWrong readChecks reading first unless sizes round rounds
 one-byte-short = refl
+
+pub one-byte-long : OneByteLong
+unfolding OneByteLong odd bit bitsOf value width joined all padded place valueAt values headerWrong readChecks reading first unless sizes round rounds
+one-byte-long = refl
 
 pub zeros-are-read : ZerosAreRead
 unfolding ZerosAreRead odd bit bitsOf value width joined all padded place valueAt values headerWrong readChecks reading first unless sizes round rounds paddingWrong clean form unpack

@@ -7,8 +7,13 @@ use native.Mathlib.Omega.{arith}
 use lib.ListN.{length, take, drop, replicate, length-append, length-drop, length-replicate, take-append-drop}
 use lib.Seq.{take-at, drop-at, drop-drop, length-take-le, take-add}
 use Rattle.slices.specs.Slices.{Bytes, part}
-use Rattle.shape.specs.Fields.{Field, size, slot, sizes, slots, unpack, pack, all, isZero, padded, clean, cleanSlots}
+use Rattle.shape.specs.Fields.{Field, size, slot, sizes, unpack, pack, all, isZero, padded, clean, cleanSlots}
 use Rattle.shape.proofs.PaddingLaws.{and-left, and-right, all-zero, zeros-all, padded-take, padded-front}
+
+-- bytes of all fields in the unpacked form
+unfoldable pub slots : List Field → ℕ
+slots [] = 0
+slots (f ∷ fs) = slot f + slots fs
 
 -- what stands behind two parts
 behind : (u k : ℕ) (a b : Bytes) → length a ≡ u → drop (u + k) (a ++ (replicate k 0 ++ b)) ≡ b

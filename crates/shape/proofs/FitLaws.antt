@@ -1,7 +1,7 @@
 -- What reading has checked of each round, and what writing asks of it: `Fit`. And what signing gets by writing parts that fit:
 -- a signature that reads as its form.
 use mathlib.Core.Path.{_≡_, refl, sym, ap, _∙_}
-use mathlib.Core.Bool.{Bool, true, false, cond, _&&_}
+use mathlib.Core.Bool.{Bool, true, false, _&&_}
 use mathlib.Core.List.{List, []}
 use Prim.Native.Nat.{ℕ, zero, suc, _+_, _≤_, _<_}
 use native.Mathlib.Omega.{arith}
@@ -28,7 +28,7 @@ use Rattle.shape.proofs.PaddingLaws.{and-left, and-right, all-each, all
 use Rattle.shape.proofs.PartLaws.{length-part}
 use Rattle.shape.proofs.HeaderLaws.{length-values}
 use Rattle.shape.proofs.RoundLaws.{slots-zero, slots-other}
-use Rattle.shape.proofs.ReadingLaws.{unless-fine, sound, sound-passes, Whole, whole-passes}
+use Rattle.shape.proofs.ReadingLaws.{no, unless-fine, sound, sound-passes, Whole, whole-passes}
 use Rattle.shape.proofs.RoundTripsProof.{form-whole, values-of-form, length-valuesIn, signature-sound, written-is-read}
 use Rattle.shape.proofs.FormLaws.{slot-within, slots-more, slots-fails}
 use Rattle.shape.proofs.ShownLaws.{fit-sized, transcript-in-place, share-in-place, no-share, length-formOf, values-of-formOf, value-of-formOf, shown-in-formOf}
@@ -108,9 +108,6 @@ module _ {p : Set} (q : IsSet p) (x : Bytes) (k e : ℕ) where
             fits (and-left _ _ f) (padded-packed (p .n) (drop c5 x) g bs (rw length-drop (omega arith))) (λ y. absurd (eqb-false e 0 z y))
 
 -- ---- all rounds
-
-no : {A : Type 0} → true ≡ false → A
-no e = let z : _≡_ {A = ℕ} 0 1 = ap (λ (b : Bool). cond b 0 1) e in absurd (omega arith)
 
 -- clean slots are clean in each round
 slots-each : (p : Set) (es : List ℕ) (x : Bytes) → cleanSlots (fields p es) (drop (p .t) x) ≡ true

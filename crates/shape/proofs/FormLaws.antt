@@ -11,12 +11,12 @@ use lib.Seq.{drop-drop, length-take-le, take-length}
 use Rattle.slices.specs.Slices.{Bytes, part, joined}
 use Rattle.sets.specs.declared.Set.{Set}
 use Rattle.sets.specs.Lengths.{w, seedWidth, transcript, salt, header, roundLeast, roundMost, unpackedLength}
-use Rattle.shape.specs.Fields.{sizes, slots, unpack, clean, cleanSlots}
+use Rattle.shape.specs.Fields.{sizes, unpack, clean, cleanSlots}
 use Rattle.shape.specs.Header.{values}
 use Rattle.shape.specs.Rounds.{round, rounds, fields, signatureLength, start}
 use Rattle.shape.specs.Form.{form, Shown, slotOf, slotAt, shownIn}
 use Rattle.shape.proofs.PaddingLaws.{width-whole}
-use Rattle.shape.proofs.FieldLaws.{length-unpack, unpack-append, clean-append, cleanSlots-append}
+use Rattle.shape.proofs.FieldLaws.{slots, length-unpack, unpack-append, clean-append, cleanSlots-append}
 use Rattle.shape.proofs.PartLaws.{part-part, part-past, five-parts, part-of-joined}
 use Rattle.shape.proofs.HeaderLaws.{length-values}
 use Rattle.shape.proofs.RoundsLaws.{slots-round, slots-fields, sizes-fields, rounds-more, fields-more, fields-around, round-within}

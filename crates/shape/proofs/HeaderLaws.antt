@@ -85,16 +85,6 @@ pub getD-values : (p : Set) (s : Bytes) (k : ℕ) → k < p .t → getD (values 
 unfolding values
 getD-values p s k h = getD-joined (valueAt s) (p .t) k h
 
--- a value is read off its two bits
-value-bits : (s x : Bytes) (k : ℕ) → ((b : ℕ) → b < 2 → bitsOf s (2 * k + b) ≡ bitsOf x (2 * k + b)) → valueAt s k ≡ valueAt x k
-unfolding valueAt
-value-bits s x k h =
-    ap₂ (λ (a b : Bool). 2 * digit a + digit b) (h (place 1) (place-below 1 (omega arith))) (h (place 0) (place-below 0 (omega arith)))
-
--- in particular off the first bytes
-pub value-front : (a b : Bytes) (k : ℕ) → 2 * k + 2 ≤ 8 * length a → valueAt (a ++ b) k ≡ valueAt a k
-value-front a b k h = value-bits (a ++ b) a k (λ i l. bits-front a b (2 * k + i) (omega arith))
-
 bit-of-value : (s : Bytes) (k b : ℕ) → b < 2 → bit (valueAt s k) b ≡ bitsOf s (2 * k + place b)
 unfolding valueAt
 bit-of-value s k zero h = low-of-two (bitsOf s (2 * k + place 1)) (bitsOf s (2 * k + place 0))

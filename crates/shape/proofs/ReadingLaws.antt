@@ -23,7 +23,7 @@ use Rattle.shape.specs.Reading.{headerWrong, paddingWrong, readChecks, v
 
 -- ---- checks that all pass
 
-no : {A : Type 0} → true ≡ false → A
+pub no : {A : Type 0} → true ≡ false → A
 no e = let z : _≡_ {A = ℕ} 0 1 = ap (λ (b : Bool). cond b 0 1) e in absurd (omega arith)
 
 -- where nothing is refused, the first check does not hold and the others refuse nothing
@@ -31,11 +31,6 @@ pub passed : (b : Bool) (r : Refusal) (ks : List Check) → fine r ≡ false →
 unfolding first
 passed true r ks f e = no (ap fine (sym e) ∙ f)
 passed false r ks f e = (refl, e)
-
--- and the other way
-pub passes : (b : Bool) (r : Refusal) (ks : List Check) → b ≡ false → first ks ≡ Fine → first (when b r ∷ ks) ≡ Fine
-unfolding first
-passes b r ks f e = rw f e
 
 gives-same : {a b : Bytes} → gives a ≡ gives b → a ≡ b
 gives-same e = cc

@@ -12,14 +12,14 @@ use Rattle.slices.specs.Slices.{Bytes}
 use Rattle.bits.proofs.NumberLaws.{below}
 use Rattle.sets.specs.declared.Set.{Set}
 use Rattle.sets.specs.Lengths.{salt, header, roundMost, unpackedLength}
-use Rattle.shape.specs.Fields.{all, slots, sizes, unpack, pack}
+use Rattle.shape.specs.Fields.{all, sizes, unpack, pack}
 use Rattle.shape.specs.Header.{values, headerOf, isValue, AreValues}
 use Rattle.shape.specs.Rounds.{fields, signatureLength}
 use Rattle.shape.specs.Form.{form, valuesIn, signature}
 use Rattle.shape.specs.Reading.{reading, writing}
-use Rattle.shape.specs.RoundTrips.{AreBytes, ReadIsWritten, WrittenIsRead, OneReading, OneString, OneForm}
+use Rattle.shape.specs.RoundTrips.{AreBytes, ReadIsWritten, WrittenIsRead, OneString, OneForm}
 use Rattle.shape.proofs.PaddingLaws.{all-at}
-use Rattle.shape.proofs.FieldLaws.{length-unpack, length-pack, pack-unpack, unpack-pack, clean-pack, clean-unpack}
+use Rattle.shape.proofs.FieldLaws.{slots, length-unpack, length-pack, pack-unpack, unpack-pack, clean-pack, clean-unpack}
 use Rattle.shape.proofs.HeaderLaws.{length-values, length-header, header-of-values, values-of-header, padded-header}
 use Rattle.shape.proofs.RoundsLaws.{slots-fields, sizes-fields}
 use Rattle.shape.proofs.ReadingLaws.{given, one-outcome, unless-fine, Sound, sound, sound-passes, Whole, whole, whole-passes}
@@ -154,10 +154,6 @@ written-is-read p x s e =
     let (f, g) = given _ _ _ e in
     let h = whole p x f in
     rw (← g) (unless-fine _ _ x (sound-passes p (signature p x) (signature-sound p x h)) (form-of-signature p x h))
-
-pub one-reading : OneReading
-unfolding OneReading
-one-reading p s x y e g = one-outcome (reading p s) x y e g
 
 pub one-string : OneString
 unfolding OneString ReadIsWritten

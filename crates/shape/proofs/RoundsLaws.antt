@@ -1,6 +1,6 @@
 -- Laws of what stands behind the header: lengths, where rounds start, and the fields round by round.
 use mathlib.Core.Path.{_≡_, refl, sym, ap, _∙_}
-use mathlib.Core.Bool.{Bool, true, false, cond}
+use mathlib.Core.Bool.{Bool, true, false}
 use mathlib.Core.List.{List, [], _∷_, _++_, append-assoc, append-nil}
 use Prim.Native.Nat.{ℕ, _+_, _*_, _≤_, _<_}
 use native.Mathlib.Omega.{arith}
@@ -12,21 +12,17 @@ use lib.Seq.{take-suc, take-length}
 use borrow.Author.Tests.{eq-eqb, ne-eqb, eqb-true, eqb-false}
 use Rattle.bits.specs.Bytes.{width}
 use Rattle.sets.specs.declared.Set.{Set}
-use Rattle.sets.specs.Lengths.{w, salt, header, roundLeast, roundMost, longest}
-use Rattle.shape.specs.Fields.{Field, sizes, slots}
-use Rattle.shape.specs.Rounds.{gates, always, round, rounds, fields, signatureLength, start}
+use Rattle.sets.specs.Lengths.{salt, header, roundLeast, roundMost, longest}
+use Rattle.shape.specs.Fields.{Field, sizes}
+use Rattle.shape.specs.Rounds.{always, round, rounds, fields, signatureLength, start}
 use Rattle.shape.proofs.PaddingLaws.{width-whole}
-use Rattle.shape.proofs.FieldLaws.{sizes-append, slots-append}
+use Rattle.shape.proofs.FieldLaws.{slots, sizes-append, slots-append}
 
 width-none : width 0 ≡ 0
 unfolding width
 width-none = refl
 
 -- ---- one round
-
--- a round with the share's field as given
-abbrev withShare : Set → Field → List Field
-withShare p f = always (8 * p .digest) ∷ always (gates p) ∷ always (p .seed) ∷ always (p .seed) ∷ f ∷ []
 
 module _ (p : Set) (e : ℕ) where
   digest : width (8 * p .digest) ≡ p .digest
@@ -35,11 +31,11 @@ module _ (p : Set) (e : ℕ) where
   -- every round has the same slots
   pub slots-round : slots (round p e) ≡ roundMost p
   unfolding slots round
-  slots-round = go (eqb e 0)
+  slots-round = go (eqb e 0) refl
     where
-      go : (b : Bool) → slots (withShare p (cond b (record { bits = 0; blank = w p }) (always (p .n)))) ≡ roundMost p
-      go true = omega (arith, digest, width-none)
-      go false = omega (arith, digest)
+      go : (b : Bool) → eqb e 0 ≡ b → slots (round p e) ≡ roundMost p
+      go true z = rw z (omega (arith, digest, width-none))
+      go false z = rw z (omega (arith, digest))
 
   -- in a signature it has the share or has it not
   pub sizes-zero : e ≡ 0 → sizes (round p e) ≡ roundLeast p

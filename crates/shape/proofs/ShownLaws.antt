@@ -10,12 +10,12 @@ use Rattle.slices.specs.Slices.{Bytes, part, joined}
 use Rattle.slices.proofs.SliceLaws.{joined-cong}
 use Rattle.sets.specs.declared.Set.{Set}
 use Rattle.sets.specs.Lengths.{w, seedWidth, transcript, salt, header, roundLeast, roundMost, unpackedLength}
-use Rattle.shape.specs.Fields.{sizes, slots, pack}
+use Rattle.shape.specs.Fields.{sizes, pack}
 use Rattle.shape.specs.Header.{values, headerOf}
 use Rattle.shape.specs.Rounds.{round, rounds, signatureLength, start}
 use Rattle.shape.specs.Form.{form, valuesIn, signature, Shown, Sized, Fit, slotOf, roundOf, formOf, saltIn, slotAt, shownIn}
 use Rattle.shape.proofs.PaddingLaws.{width-whole}
-use Rattle.shape.proofs.FieldLaws.{pack-append}
+use Rattle.shape.proofs.FieldLaws.{slots, pack-append}
 use Rattle.shape.proofs.PartLaws.{length-part, part-past, part-behind, next-to, length-of-joined}
 use Rattle.shape.proofs.HeaderLaws.{length-values}
 use Rattle.shape.proofs.RoundsLaws.{slots-rounds, sizes-bounds, rounds-more, start-first, start-more, round-within}

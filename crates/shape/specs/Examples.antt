@@ -37,6 +37,10 @@ LengthsOfSet1 =
 unfoldable pub OneByteShort : Type 0
 OneByteShort = reading l1 (replicate 30527 0) ≡ refused Length
 
+-- a byte after the last round: 9
+unfoldable pub OneByteLong : Type 0
+OneByteLong = reading l1 (replicate 30529 0) ≡ refused Length
+
 -- 30,528 zero bytes are a signature, and its unpacked form is 34,196 zero bytes
 unfoldable pub ZerosAreRead : Type 0
 ZerosAreRead = reading l1 (replicate 30528 0) ≡ gives (replicate 34196 0)

@@ -27,11 +27,6 @@ unfoldable pub sizes : List Field → ℕ
 sizes [] = 0
 sizes (f ∷ fs) = size f + sizes fs
 
--- bytes of all fields in the unpacked form
-unfoldable pub slots : List Field → ℕ
-slots [] = 0
-slots (f ∷ fs) = slot f + slots fs
-
 -- from a signature to the unpacked form
 unfoldable pub unpack : List Field → Bytes → Bytes
 unpack [] s = []

@@ -9,7 +9,7 @@ use Rattle.bits.specs.Bits.{Bits}
 use Rattle.bits.specs.Bytes.{bit, bitsOf, digit, bytesOf}
 use Rattle.sets.specs.declared.Set.{Set}
 
--- the place of bit b of a value in its pair: the high bit first
+-- where bit b of a value stands in its pair, and which bit stands at place b: the high bit first
 unfoldable pub place : ℕ → ℕ
 place b = 1 - b
 

@@ -21,7 +21,7 @@ use Rattle.shape.specs.Form.{form, valuesIn, signature}
 unfoldable pub headerWrong : Set → Bytes → Bool
 headerWrong p s = not (all isValue (values p s)) || not (padded (2 * p .t) s)
 
--- 11: transcript padding not zero
+-- 11: transcript padding not zero; in the three sets no other field has padding
 unfoldable pub paddingWrong : Set → Bytes → Bool
 paddingWrong p s = not (clean (fields p (values p s)) (drop (header p) s))
 
@@ -34,6 +34,7 @@ readChecks p s =
     ∷ when (paddingWrong p s) Padding
     ∷ []
 
+-- reading: the first refusal, or the unpacked form
 unfoldable pub reading : Set → Bytes → Outcome
 reading p s = unless (readChecks p s) (form p s)
 
@@ -53,6 +54,7 @@ writeChecks p x =
     ∷ when (slotWrong p x) Padding
     ∷ []
 
+-- writing: the first refusal, or the signature
 unfoldable pub writing : Set → Bytes → Outcome
 writing p x = unless (writeChecks p x) (signature p x)
 
@@ -68,6 +70,6 @@ writeInto p x output = unless (when (tooShort (longest p) output) Room ∷ write
 unfoldable pub read : Chosen → (s : Bytes) → (output : ℕ) → Outcome
 read c s output = withSet c (λ p. readInto p s output)
 
--- writing as a call
+-- writing as a call: likewise
 unfoldable pub write : Chosen → (x : Bytes) → (output : ℕ) → Outcome
 write c x output = withSet c (λ p. writeInto p x output)

@@ -19,10 +19,6 @@ ReadIsWritten = (p : Set) (s x : Bytes) → AreBytes s → reading p s ≡ gives
 unfoldable pub WrittenIsRead : Type 0
 WrittenIsRead = (p : Set) (x s : Bytes) → writing p x ≡ gives s → reading p s ≡ gives x
 
--- a string has at most one reading
-unfoldable pub OneReading : Type 0
-OneReading = (p : Set) (s x y : Bytes) → reading p s ≡ gives x → reading p s ≡ gives y → x ≡ y
-
 -- two different strings never have the same reading: one signature has one form
 unfoldable pub OneString : Type 0
 OneString = (p : Set) (r s x : Bytes) → AreBytes r → AreBytes s → reading p r ≡ gives x → reading p s ≡ gives x → r ≡ s

@@ -14,6 +14,9 @@ slice-aggregate-read-full c = search needs
 read-full-requires : tie.Need-read-full-requires
 read-full-requires c κs = search needs
 
+large-buffer-requires-2 : tie.Need-large-buffer-requires-2
+large-buffer-requires-2 c κs = search needs
+
 array-share-prefix-input : tie.Need-array-share-prefix-input
 array-share-prefix-input c = search needs
 
@@ -99,6 +102,7 @@ main-spec =
     large-buffer-requires
     slice-aggregate-read-full
     read-full-requires
+    large-buffer-requires-2
     array-share-prefix-input
     slice-aggregate-read
     slice-aggregate-read-2

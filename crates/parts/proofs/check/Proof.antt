@@ -32,7 +32,7 @@ returns-3 c =
     let start = c .before .before .before .before .before .before .before in
     sym (read-length (start .args .p) (start .args .s .now) (omega arith)
     (sym (c .before .before .before .header-wrong .ensures) ∙ c .before .before .if2 .left)
-    (λ e. c .if3 .taken (e ∙ sym (c .before .full-length .ensures))))
+    (λ e. omega (arith, e, c .if3 .taken, c .before .full-length .ensures)))
 
 padding-wrong-requires : tie.Need-padding-wrong-requires
 padding-wrong-requires c κs = search needs

@@ -30,10 +30,14 @@ same-length c = search needs
 
 returns : tie.Need-returns
 returns c =
-    let start =
-    c .before .before .before .before .before .before .before .before .before .before .before .before .before .before .before .before .before .before .before .before .before in
+    let fourth = c .before .before in
+    let third = fourth .before .before .before .before in
+    let second = third .before .before .before .before in
+    let first = second .before .before .before .before in
+    let start = first .before .before .before .before .before .before .before in
     four-put (start .args .output .now) (start .args .at) (start .args .a .now) (start .args .b .now) (start .args .c .now)
-    (start .args .d .now) (start .pre) (c .before .before .before .before .before .before .before .before .before .before .before .before .before .before .place .ensures) (c .before .before .before .before .before .before .before .before .before .before .place2 .ensures) (c .before .before .before .before .before .before .place3 .ensures) (c .before .before .place4 .ensures)
+    (start .args .d .now) (start .pre) (first .place .ensures) (second .place2 .ensures) (third .place3 .ensures)
+    (fourth .place4 .ensures)
 
 pub put-four-spec : {M : Type 1} → statement M
 put-four-spec =

@@ -12,7 +12,7 @@ unpacked-length-requires c κs = search needs
 returns : tie.Need-returns
 returns c =
     let start = c .before .before .before in
-    sym (write-length (start .args .p) (start .args .x .now) (λ e. c .if1 .taken (e ∙ sym (c .before .unpacked-length .ensures))))
+    sym (write-length (start .args .p) (start .args .x .now) (λ e. omega (arith, e, c .if1 .taken, c .before .unpacked-length .ensures)))
 
 value-wrong-requires : tie.Need-value-wrong-requires
 value-wrong-requires c κs = search needs

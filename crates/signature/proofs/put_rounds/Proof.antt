@@ -64,14 +64,12 @@ part-place-end c =
 place-requires : tie.Need-place-requires Inv-loop μ-loop
 place-requires c κs =
     let start = c .before .before .before .before .before .before .before .before .before .before in
+    let turn = c .before .before .before .before .before .loop in
     omega (
       arith,
-      packed-inside (c .before .before .before .before .before .loop .inv) (start .pre .1 .0) (start .pre .1 .1)
-          (c .before .before .before .before .loop-test .taken),
-      packed-length (c .before .before .before .before .before .loop .inv)
-          (start .pre .1 .0) (start .pre .1 .1),
-      length-take
-          (c .before .before .before .before .before .loop .from + c .before .before .round-length .result - c .before .before .before .before .before .loop .from) (drop (c .before .before .before .before .before .loop .from) (start .args .x .now)),
+      packed-inside (turn .inv) (start .pre .1 .0) (start .pre .1 .1) (c .before .before .before .before .loop-test .taken),
+      packed-length (turn .inv) (start .pre .1 .0) (start .pre .1 .1),
+      length-take (turn .from + c .before .before .round-length .result - turn .from) (drop (turn .from) (start .args .x .now)),
     )
 
 add-at-2 : tie.Need-add-at-2 Inv-loop μ-loop

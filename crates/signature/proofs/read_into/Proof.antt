@@ -51,11 +51,16 @@ same-length c = search needs
 
 returns-2 : tie.Need-returns-2
 returns-2 c =
-    let start = c .before .before .before .before .before .before .before .before .before .before .before .before in
-    gave _ _ _ _ _ (read-done (start .args .p) (start .args .s .now) _ (omega arith) _
-    (c .before .before .before .before .before .before .before .check .ensures)
-    (sym (c .before .before .before .before .before .before .fine .ensures) ∙ c .before .before .before .before .before .if2 .taken))
-    (c .answer2 .ensures ∙ ap (answer Fine) (c .before .before .before .before .before .before .before .before .before .unpacked-length .ensures ∙ sym (length-form (start .args .p) (start .args .s .now) (read-exact (start .args .p) (start .args .s .now) _ _ (c .before .before .before .before .before .before .before .check .ensures) (c .before .before .before .before .before .before .fine .ensures) (c .before .before .before .before .before .if2 .taken))))) (c .before .before .before .unpack .ensures)
+    let test = c .before .before .before .before .before in
+    let fine = test .before in
+    let check = fine .before in
+    let start = check .before .before .before .before .before in
+    let p = start .args .p in
+    let s = start .args .s .now in
+    let exact = read-exact p s _ _ (check .check .ensures) (fine .fine .ensures) (test .if2 .taken) in
+    gave _ _ _ _ _ (read-done p s _ (omega arith) _ (check .check .ensures) (sym (fine .fine .ensures) ∙ test .if2 .taken))
+    (c .answer2 .ensures ∙ ap (answer Fine) (check .before .before .unpacked-length .ensures ∙ sym (length-form p s exact)))
+    (c .before .before .before .unpack .ensures)
 
 answer-requires-3 : tie.Need-answer-requires-3
 answer-requires-3 c κs = search needs
