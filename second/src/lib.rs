@@ -22,3 +22,4 @@ pub mod lowmc;
 pub mod noise;
 pub mod sets;
 pub mod shake;
+pub mod signature;

@@ -20,7 +20,7 @@ second help
     print this text
 second constants
     print the numbers that a host's header has, a name and a number a line
-second calls {hash|encrypt|public_key|seeds|challenge}
+second calls {hash|encrypt|public_key|seeds|challenge|read|write}
     print calls of this function of the library with their answers, for a C
     host to make
 second shake {128|256} OUTLEN

@@ -58,7 +58,15 @@ fn calls_prints_the_sheet_of_a_function() {
 /// Each sheet is of calls of its own function.
 #[test]
 fn calls_go_to_the_function_that_is_asked_for() {
-    for function in ["hash", "encrypt", "public_key", "seeds"] {
+    for function in [
+        "hash",
+        "encrypt",
+        "public_key",
+        "seeds",
+        "challenge",
+        "read",
+        "write",
+    ] {
         let output = run(&["calls", function], b"");
         let text = String::from_utf8_lossy(&output.stdout).into_owned();
         let mut calls = text.lines().filter(|line| line.starts_with("call "));

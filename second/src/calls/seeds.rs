@@ -145,8 +145,8 @@ type Wrong = Fault<Case>;
 fn faults() -> Vec<Wrong> {
     let groups: [Vec<Wrong>; 4] = [
         no_sets(|case| &mut case.set),
-        other_lengths("secret", Refusal::Key, |case| &mut case.secret),
-        other_lengths("public", Refusal::Key, |case| &mut case.public),
+        other_lengths("secret", Refusal::Key, |case: &mut Case| &mut case.secret),
+        other_lengths("public", Refusal::Key, |case: &mut Case| &mut case.public),
         vec![
             Wrong::new("secret-double", Refusal::Key, |case| {
                 case.secret.resize(case.public.len(), 0);
