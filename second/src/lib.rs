@@ -20,6 +20,8 @@ pub mod keccak;
 pub mod known;
 pub mod lowmc;
 pub mod noise;
+pub mod picnic;
+pub mod round;
 pub mod sets;
 pub mod shake;
 pub mod signature;
