@@ -1,41 +1,148 @@
 //! The program's own speed, to stand beside the library's.
 
+use std::hint::black_box;
 use std::time::Instant;
 
-use crate::known::KNOWN;
+use crate::hashing::{derived_seeds, kdf};
+use crate::keccak::permute;
+use crate::known::{Known, KNOWN};
+use crate::lowmc::Tables;
+use crate::picnic::Statement;
 use crate::sets::Set;
 
 /// What was measured.
 pub struct Measured {
-    /// Nanoseconds for each encryption: the median of the turns.
+    /// Nanoseconds for each time that the work was done: the median of the
+    /// turns.
     pub nanoseconds: f64,
-    /// The last block that was encrypted to, by which two programs can tell
-    /// that they did the same work.
+    /// What the work led to, by which two programs can tell that they did the
+    /// same.
     pub last: Vec<u8>,
 }
 
-/// Times encryptions by words over the drawn tables of a set, so many in each
-/// of so many turns. The first is of the set's known block; each other is of
-/// what the one before gave, under one key. Turns are short, so that other
-/// work on the machine interrupts few of them and the median is not moved.
-pub fn encryptions(set: &Set, turns: usize, times: usize) -> Measured {
-    let (cipher, tables) = (set.lowmc(), set.lowmc().tables());
-    let known = KNOWN
-        .iter()
-        .find(|known| known.lowmc() == cipher)
-        .expect("a block of every set is known");
-    let (key, mut block) = (known.key(), known.block());
-    let mut spent = Vec::new();
-    for _ in 0..turns {
-        let start = Instant::now();
-        for _ in 0..times {
-            block = cipher.encrypt_by_words(&tables, &key, &block);
+/// How often work is done: so many times in each of so many turns. Turns are
+/// short, so that other work on the machine interrupts few of them and the
+/// median is not moved.
+#[derive(Clone, Copy)]
+pub struct Turns {
+    /// How many turns there are.
+    pub turns: usize,
+    /// How many times the work is done in each.
+    pub times: usize,
+}
+
+impl Turns {
+    /// Nanoseconds for each time.
+    fn measure(self, mut work: impl FnMut()) -> f64 {
+        let mut spent = Vec::new();
+        for _ in 0..self.turns {
+            let start = Instant::now();
+            (0..self.times).for_each(|_| work());
+            spent.push(start.elapsed().as_nanos() as f64 / self.times as f64);
         }
-        spent.push(start.elapsed().as_nanos() as f64 / times as f64);
+        median(spent)
     }
+}
+
+/// The known encryption of a set, whose key and block are used here.
+fn known(set: &Set) -> &'static Known {
+    let cipher = set.lowmc();
+    let found = KNOWN.iter().find(|known| known.lowmc() == cipher);
+    found.expect("a block of every set is known")
+}
+
+/// Times encryptions by words over the drawn tables of a set. The first is of
+/// the set's known block; each other is of what the one before gave, under one
+/// key.
+pub fn encryptions(set: &Set, turns: Turns) -> Measured {
+    let (cipher, tables) = (set.lowmc(), set.lowmc().tables());
+    let (key, mut block) = (known(set).key(), known(set).block());
+    let nanoseconds = turns.measure(|| block = cipher.encrypt_by_words(&tables, &key, &block));
     Measured {
-        nanoseconds: median(spent),
+        nanoseconds,
         last: block,
+    }
+}
+
+/// Times the permutation, each time of what the time before gave.
+pub fn permutations(turns: Turns) -> Measured {
+    let mut state = [0; 25];
+    let nanoseconds = turns.measure(|| state = black_box(permute(&state)));
+    Measured {
+        nanoseconds,
+        last: state[0].to_le_bytes().into(),
+    }
+}
+
+/// The message that is signed.
+const MESSAGE: &[u8] = b"A package of record layouts and call sheets.";
+
+/// A signature to be made: the known key pair of a set, a message and derived
+/// seeds.
+struct Work {
+    set: &'static Set,
+    tables: std::sync::Arc<Tables>,
+    secret: Vec<u8>,
+    public: Vec<u8>,
+    seeds: Vec<u8>,
+}
+
+impl Work {
+    fn new(set: &'static Set) -> Work {
+        let known = known(set);
+        let (secret, public) = (known.key(), [known.ciphertext(), known.block()].concat());
+        Work {
+            set,
+            tables: set.lowmc().tables(),
+            seeds: derived_seeds(set, &secret, &public, MESSAGE),
+            secret,
+            public,
+        }
+    }
+
+    fn statement(&self) -> Statement<'_> {
+        Statement {
+            set: self.set,
+            tables: &self.tables,
+            public: &self.public,
+            message: MESSAGE,
+            limit: 64,
+        }
+    }
+
+    fn sign(&self) -> Vec<u8> {
+        let signature = self.statement().sign(&self.secret, &self.seeds);
+        signature.expect("the keys are a pair and the limit is high")
+    }
+}
+
+/// A short mark of a signature.
+fn mark(set: &Set, signature: &[u8]) -> Vec<u8> {
+    kdf(set, &[signature], 16)
+}
+
+/// Times the signing of one message, and gives a digest of the signature.
+pub fn signatures(set: &'static Set, turns: Turns) -> Measured {
+    let work = Work::new(set);
+    let mut signature = vec![];
+    let nanoseconds = turns.measure(|| signature = work.sign());
+    Measured {
+        nanoseconds,
+        last: mark(set, &signature),
+    }
+}
+
+/// Times the verifying of that signature.
+pub fn verdicts(set: &'static Set, turns: Turns) -> Measured {
+    let work = Work::new(set);
+    let signature = work.sign();
+    let nanoseconds = turns.measure(|| {
+        let verdict = work.statement().verify(&signature);
+        verdict.expect("the signature is valid");
+    });
+    Measured {
+        nanoseconds,
+        last: mark(set, &signature),
     }
 }
 
@@ -61,7 +168,7 @@ mod tests {
     #[test]
     fn each_encryption_takes_what_the_last_gave() {
         let set = &SETS[0];
-        let measured = encryptions(set, 3, 2);
+        let measured = encryptions(set, Turns { turns: 3, times: 2 });
         let (cipher, tables) = (set.lowmc(), set.lowmc().tables());
         let mut block = KNOWN[0].block();
         for _ in 0..6 {
@@ -69,5 +176,21 @@ mod tests {
         }
         assert_eq!(measured.last, block);
         assert!(measured.nanoseconds > 0.0);
+    }
+
+    /// Three permutations from the zero state.
+    #[test]
+    fn each_permutation_takes_what_the_last_gave() {
+        let measured = permutations(Turns { turns: 3, times: 1 });
+        let state = permute(&permute(&permute(&[0; 25])));
+        assert_eq!(measured.last, state[0].to_le_bytes());
+    }
+
+    /// The signature that is verified is the one that is made.
+    #[test]
+    fn what_is_signed_is_verified() {
+        let once = Turns { turns: 1, times: 1 };
+        let (made, verified) = (signatures(&SETS[0], once), verdicts(&SETS[0], once));
+        assert_eq!(made.last, verified.last);
     }
 }

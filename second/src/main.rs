@@ -6,7 +6,7 @@ use std::process::ExitCode;
 use std::str::FromStr;
 
 use second::answers::REFUSALS;
-use second::bench;
+use second::bench::{self, Turns};
 use second::calls;
 use second::hex::{from_hex, to_hex};
 use second::lowmc::Lowmc;
@@ -35,9 +35,10 @@ second lend SET
 second encrypt SET KEYHEX BLOCKHEX
     encrypt a block with the LowMC of set 1, 2 or 3 over its drawn tables and
     print the ciphertext in hex
-second bench encrypt SET TURNS TIMES
-    encrypt TIMES times in each of TURNS turns, each time what the last time
-    gave, and print the nanoseconds of one encryption and the last ciphertext
+second bench {encrypt|permute|sign|verify} SET TURNS TIMES
+    do one thing TIMES times in each of TURNS turns, and print the nanoseconds
+    of one time and what came of the last: encrypt a block or permute a state,
+    each time what the last time gave; sign a message, or verify a signature
 ";
 
 /// What went wrong, in words for the user.
@@ -68,7 +69,7 @@ fn run(arguments: &[String], input: &mut dyn Read, output: &mut dyn Write) -> Re
         ["tables", n, s, r] => run_tables(n, s, r, output),
         ["lend", set] => run_lend(set, output),
         ["encrypt", set, key, block] => run_encrypt(set, key, block, output),
-        ["bench", "encrypt", set, turns, times] => run_bench(set, turns, times, output),
+        ["bench", what, set, turns, times] => run_bench(what, set, turns, times, output),
         _ => Err("no such subcommand with so many arguments; try: second help".into()),
     }
 }
@@ -173,12 +174,26 @@ fn run_encrypt(set: &str, key: &str, block: &str, output: &mut dyn Write) -> Res
     print(output, &format!("{}\n", to_hex(&ciphertext)))
 }
 
-fn run_bench(set: &str, turns: &str, times: &str, output: &mut dyn Write) -> Result<(), Refusal> {
+fn run_bench(
+    what: &str,
+    set: &str,
+    turns: &str,
+    times: &str,
+    output: &mut dyn Write,
+) -> Result<(), Refusal> {
+    let set = set_of(set)?;
     let (turns, times) = (number("TURNS", turns)?, number("TIMES", times)?);
     if turns == 0 || times == 0 {
         return Err("nothing is measured in no time".into());
     }
-    let measured = bench::encryptions(set_of(set)?, turns, times);
+    let turns = Turns { turns, times };
+    let measured = match what {
+        "encrypt" => bench::encryptions(set, turns),
+        "permute" => bench::permutations(turns),
+        "sign" => bench::signatures(set, turns),
+        "verify" => bench::verdicts(set, turns),
+        _ => return Err(format!("{what}: not measured")),
+    };
     let last = to_hex(&measured.last);
     print(output, &format!("{:.1} {last}\n", measured.nanoseconds))
 }
