@@ -3,12 +3,17 @@
 //! module writes it, and each module below it chooses the cases of one call.
 
 pub mod challenge;
+pub mod damaged;
 pub mod faults;
 pub mod hash;
 pub mod lowmc;
 pub mod seeds;
+pub mod sign;
 pub mod signature;
+pub mod statement;
+pub mod strings;
 pub mod tables;
+pub mod verify;
 
 use std::collections::BTreeSet;
 use std::fmt;
@@ -18,7 +23,7 @@ use crate::hex::to_hex;
 use crate::noise::Noise;
 
 /// The file of calls of a function, which is named without the library's
-/// prefix.
+/// prefix; or the file of many damaged signatures.
 pub fn of(function: &str) -> Option<Sheet> {
     match function {
         "hash" => Some(hash::sheet()),
@@ -28,6 +33,9 @@ pub fn of(function: &str) -> Option<Sheet> {
         "challenge" => Some(challenge::sheet()),
         "read" => Some(signature::sheet(signature::Function::Read)),
         "write" => Some(signature::sheet(signature::Function::Write)),
+        "sign" => Some(sign::sheet()),
+        "verify" => Some(verify::sheet()),
+        "damaged" => Some(damaged::sheet(damaged::DAMAGED)),
         _ => None,
     }
 }

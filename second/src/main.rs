@@ -20,9 +20,11 @@ second help
     print this text
 second constants
     print the numbers that a host's header has, a name and a number a line
-second calls {hash|encrypt|public_key|seeds|challenge|read|write}
+second calls {hash|encrypt|public_key|seeds|challenge|read|write|sign|verify}
     print calls of this function of the library with their answers, for a C
     host to make
+second calls damaged
+    print calls of verify with many damaged signatures
 second shake {128|256} OUTLEN
     hash standard input and print OUTLEN bytes of output in hex
 second tables N S R

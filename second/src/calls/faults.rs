@@ -39,26 +39,33 @@ impl<Case> Fault<Case> {
     }
 }
 
-/// Set numbers that name no set, put in the place that `set` shows.
-pub fn no_sets<Case: 'static>(set: fn(&mut Case) -> &mut u64) -> Vec<Fault<Case>> {
+/// Faults of a part of a case as faults of the case.
+pub fn within<Part: 'static, Case>(
+    faults: Vec<Fault<Part>>,
+    part: impl Fn(&mut Case) -> &mut Part + Copy + 'static,
+) -> Vec<Fault<Case>> {
+    let outside = |fault: Fault<Part>| Fault {
+        name: fault.name,
+        refusal: fault.refusal,
+        order: fault.order,
+        spoil: Box::new(move |case: &mut Case| (fault.spoil)(part(case))),
+    };
+    faults.into_iter().map(outside).collect()
+}
+
+/// Set numbers that name no set.
+pub fn no_sets() -> Vec<Fault<u64>> {
     let fault = |number| {
         let name = format!("no-set-{number}");
-        Fault::new(&name, Refusal::NoSet, move |case| *set(case) = number)
+        Fault::new(&name, Refusal::NoSet, move |set| *set = number)
     };
     NO_SETS.map(fault).into()
 }
 
-/// A byte string of a fixed length, which `bytes` shows, one byte shorter, one
-/// longer, and empty.
-pub fn other_lengths<Case: 'static>(
-    name: &str,
-    refusal: Refusal,
-    bytes: impl Fn(&mut Case) -> &mut Vec<u8> + Copy + 'static,
-) -> Vec<Fault<Case>> {
-    let fault = |how: &str, change: fn(&mut Vec<u8>)| {
-        let name = format!("{name}-{how}");
-        Fault::new(&name, refusal, move |case| change(bytes(case)))
-    };
+/// A byte string of a fixed length one byte shorter, one longer, and empty.
+pub fn other_lengths(name: &str, refusal: Refusal) -> Vec<Fault<Vec<u8>>> {
+    let fault =
+        |how: &str, change: fn(&mut Vec<u8>)| Fault::new(&format!("{name}-{how}"), refusal, change);
     vec![
         fault("short", |bytes| bytes.truncate(bytes.len() - 1)),
         fault("long", |bytes| bytes.push(0)),

@@ -4,7 +4,7 @@
 //! writes the encryption of the block; the other writes the public key, which
 //! is that encryption and then the block. Both refuse with 1, 2, 3 or 6.
 
-use super::faults::{choices, no_sets, other_lengths, Fault};
+use super::faults::{choices, no_sets, other_lengths, within, Fault};
 use super::tables::{self, Contents, LentTables};
 use super::{Argument, Call, Outcome, Piece, Sheet};
 use crate::answers::Refusal;
@@ -194,10 +194,14 @@ type Wrong = Fault<Case>;
 /// All that can be wrong.
 fn faults() -> Vec<Wrong> {
     let groups: [Vec<Wrong>; 5] = [
-        no_sets(|case| &mut case.set),
-        tables::faults(|case| &mut case.tables),
-        other_lengths("secret", Refusal::Key, |case: &mut Case| &mut case.secret),
-        other_lengths("block", Refusal::Key, |case: &mut Case| &mut case.block),
+        within(no_sets(), |case: &mut Case| &mut case.set),
+        within(tables::faults(), |case: &mut Case| &mut case.tables),
+        within(other_lengths("secret", Refusal::Key), |case: &mut Case| {
+            &mut case.secret
+        }),
+        within(other_lengths("block", Refusal::Key), |case: &mut Case| {
+            &mut case.block
+        }),
         vec![
             Wrong::new("output-short", Refusal::Room, |case| case.output -= 1),
             Wrong::new("output-half", Refusal::Room, |case| case.output /= 2),

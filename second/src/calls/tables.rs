@@ -1,6 +1,6 @@
 //! LowMC tables as calls lend them.
 
-use super::faults::{other_lengths, Fault};
+use super::faults::{other_lengths, within, Fault};
 use super::{Argument, Lent, Piece, Sheet};
 use crate::answers::Refusal;
 use crate::lowmc::Tables;
@@ -92,18 +92,25 @@ fn name(kind: &str, what: &str, set: &Set) -> String {
 }
 
 /// Tables of other lengths.
-pub fn faults<Case: 'static>(tables: fn(&mut Case) -> &mut LentTables) -> Vec<Fault<Case>> {
+pub fn faults() -> Vec<Fault<LentTables>> {
     let other = Refusal::Table;
-    let mut faults = other_lengths("keys", other, move |case| &mut tables(case).keys.bytes);
-    faults.extend(other_lengths("layers", other, move |case| {
-        &mut tables(case).layers.bytes
-    }));
-    faults.extend(other_lengths("constants", other, move |case| {
-        &mut tables(case).constants.bytes
-    }));
-    faults.push(Fault::new("tables-swapped", other, move |case| {
-        let LentTables { keys, layers, .. } = tables(case);
-        std::mem::swap(keys, layers);
-    }));
+    let mut faults = within(other_lengths("keys", other), |tables: &mut LentTables| {
+        &mut tables.keys.bytes
+    });
+    faults.extend(within(
+        other_lengths("layers", other),
+        |tables: &mut LentTables| &mut tables.layers.bytes,
+    ));
+    faults.extend(within(
+        other_lengths("constants", other),
+        |tables: &mut LentTables| &mut tables.constants.bytes,
+    ));
+    faults.push(Fault::new(
+        "tables-swapped",
+        other,
+        |tables: &mut LentTables| {
+            std::mem::swap(&mut tables.keys, &mut tables.layers);
+        },
+    ));
     faults
 }
