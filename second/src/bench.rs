@@ -1,14 +1,16 @@
 //! The program's own speed, to stand beside the library's.
 
-use std::hint::black_box;
+use std::sync::Arc;
 use std::time::Instant;
 
 use crate::hashing::{derived_seeds, kdf};
-use crate::keccak::permute;
 use crate::known::{Known, KNOWN};
 use crate::lowmc::Tables;
 use crate::picnic::Statement;
-use crate::sets::Set;
+use crate::sets::{Set, HIGHEST_BLOCK_LIMIT};
+use crate::shake::shake;
+use crate::signature::Signature;
+use crate::work::{Task, Work};
 
 /// What was measured.
 pub struct Measured {
@@ -64,13 +66,19 @@ pub fn encryptions(set: &Set, turns: Turns) -> Measured {
     }
 }
 
-/// Times the permutation, each time of what the time before gave.
-pub fn permutations(turns: Turns) -> Measured {
-    let mut state = [0; 25];
-    let nanoseconds = turns.measure(|| state = black_box(permute(&state)));
+/// The input of a hash.
+const HASHED: usize = 1 << 20;
+
+/// Times the hashing of a long input, divided by the permutations that it
+/// takes.
+pub fn permutations(set: &Set, turns: Turns) -> Measured {
+    let input: Vec<u8> = (0..HASHED).map(|i| (i % 251) as u8).collect();
+    let mut last = vec![];
+    let nanoseconds = turns.measure(|| last = shake(set.hash, &input, 32));
+    let permutations = HASHED / set.hash.rate() + 1;
     Measured {
-        nanoseconds,
-        last: state[0].to_le_bytes().into(),
+        nanoseconds: nanoseconds / permutations as f64,
+        last,
     }
 }
 
@@ -79,19 +87,19 @@ const MESSAGE: &[u8] = b"A package of record layouts and call sheets.";
 
 /// A signature to be made: the known key pair of a set, a message and derived
 /// seeds.
-struct Work {
+struct Signer {
     set: &'static Set,
-    tables: std::sync::Arc<Tables>,
+    tables: Arc<Tables>,
     secret: Vec<u8>,
     public: Vec<u8>,
     seeds: Vec<u8>,
 }
 
-impl Work {
-    fn new(set: &'static Set) -> Work {
+impl Signer {
+    fn new(set: &'static Set) -> Signer {
         let known = known(set);
         let (secret, public) = (known.key(), [known.ciphertext(), known.block()].concat());
-        Work {
+        Signer {
             set,
             tables: set.lowmc().tables(),
             seeds: derived_seeds(set, &secret, &public, MESSAGE),
@@ -106,7 +114,7 @@ impl Work {
             tables: &self.tables,
             public: &self.public,
             message: MESSAGE,
-            limit: 64,
+            limit: HIGHEST_BLOCK_LIMIT as u64,
         }
     }
 
@@ -123,9 +131,9 @@ fn mark(set: &Set, signature: &[u8]) -> Vec<u8> {
 
 /// Times the signing of one message, and gives a digest of the signature.
 pub fn signatures(set: &'static Set, turns: Turns) -> Measured {
-    let work = Work::new(set);
+    let signer = Signer::new(set);
     let mut signature = vec![];
-    let nanoseconds = turns.measure(|| signature = work.sign());
+    let nanoseconds = turns.measure(|| signature = signer.sign());
     Measured {
         nanoseconds,
         last: mark(set, &signature),
@@ -134,16 +142,36 @@ pub fn signatures(set: &'static Set, turns: Turns) -> Measured {
 
 /// Times the verifying of that signature.
 pub fn verdicts(set: &'static Set, turns: Turns) -> Measured {
-    let work = Work::new(set);
-    let signature = work.sign();
+    let signer = Signer::new(set);
+    let signature = signer.sign();
     let nanoseconds = turns.measure(|| {
-        let verdict = work.statement().verify(&signature);
+        let verdict = signer.statement().verify(&signature);
         verdict.expect("the signature is valid");
     });
     Measured {
         nanoseconds,
         last: mark(set, &signature),
     }
+}
+
+/// How much work it is to sign that message, to sign it in two passes, and to
+/// verify the signature.
+pub fn work(set: &'static Set) -> [Work; 3] {
+    let signer = Signer::new(set);
+    let signature = signer.sign();
+    let values = Signature::read(set, &signature).expect("it has its form");
+    let enough = |&limit: &u64| {
+        let statement = signer.statement();
+        Statement { limit, ..statement }.verify(&signature).is_ok()
+    };
+    let blocks = (1..).find(enough).expect("some limit is enough");
+    let task = Task {
+        set,
+        message: MESSAGE.len(),
+        values: &values.values,
+        blocks: blocks as usize,
+    };
+    [task.sign(), task.sign_again(), task.verify()]
 }
 
 /// The middle one by size; of an even number, the upper of the two.
@@ -156,6 +184,7 @@ fn median(mut numbers: Vec<f64>) -> f64 {
 mod tests {
     use super::*;
     use crate::sets::SETS;
+    use crate::work::counted;
 
     #[test]
     fn the_median_stands_in_the_middle() {
@@ -178,19 +207,27 @@ mod tests {
         assert!(measured.nanoseconds > 0.0);
     }
 
-    /// Three permutations from the zero state.
-    #[test]
-    fn each_permutation_takes_what_the_last_gave() {
-        let measured = permutations(Turns { turns: 3, times: 1 });
-        let state = permute(&permute(&permute(&[0; 25])));
-        assert_eq!(measured.last, state[0].to_le_bytes());
-    }
-
     /// The signature that is verified is the one that is made.
     #[test]
     fn what_is_signed_is_verified() {
         let once = Turns { turns: 1, times: 1 };
         let (made, verified) = (signatures(&SETS[0], once), verdicts(&SETS[0], once));
         assert_eq!(made.last, verified.last);
+    }
+
+    /// The sums are the counts of what was done.
+    #[test]
+    fn work_is_counted() {
+        for set in &SETS {
+            let [sign, again, verify] = work(set);
+            let signer = Signer::new(set);
+            let mut signature = vec![];
+            assert_eq!(counted::of(|| signature = signer.sign()), sign);
+            let verdict = || assert_eq!(signer.statement().verify(&signature), Ok(()));
+            assert_eq!(counted::of(verdict), verify);
+            assert!(again.products > sign.products && again.permutations > sign.permutations);
+            let hash = || drop(permutations(set, Turns { turns: 1, times: 1 }));
+            assert_eq!(counted::of(hash).permutations, HASHED / set.hash.rate() + 1);
+        }
     }
 }

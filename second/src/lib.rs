@@ -25,3 +25,4 @@ pub mod round;
 pub mod sets;
 pub mod shake;
 pub mod signature;
+pub mod work;

@@ -37,10 +37,13 @@ second lend SET
 second encrypt SET KEYHEX BLOCKHEX
     encrypt a block with the LowMC of set 1, 2 or 3 over its drawn tables and
     print the ciphertext in hex
-second bench {encrypt|permute|sign|verify} SET TURNS TIMES
+second bench {hash|encrypt|sign|verify} SET TURNS TIMES
     do one thing TIMES times in each of TURNS turns, and print the nanoseconds
-    of one time and what came of the last: encrypt a block or permute a state,
-    each time what the last time gave; sign a message, or verify a signature
+    of one time and what came of the last: hash a long input, by permutations;
+    encrypt what the last time gave; sign a message; verify a signature
+second work SET
+    print the permutations and the matrix products that it takes to sign that
+    message, to sign it in two passes, and to verify the signature, a line each
 ";
 
 /// What went wrong, in words for the user.
@@ -71,6 +74,7 @@ fn run(arguments: &[String], input: &mut dyn Read, output: &mut dyn Write) -> Re
         ["tables", n, s, r] => run_tables(n, s, r, output),
         ["lend", set] => run_lend(set, output),
         ["encrypt", set, key, block] => run_encrypt(set, key, block, output),
+        ["work", set] => run_work(set, output),
         ["bench", what, set, turns, times] => run_bench(what, set, turns, times, output),
         _ => Err("no such subcommand with so many arguments; try: second help".into()),
     }
@@ -191,13 +195,23 @@ fn run_bench(
     let turns = Turns { turns, times };
     let measured = match what {
         "encrypt" => bench::encryptions(set, turns),
-        "permute" => bench::permutations(turns),
+        "hash" => bench::permutations(set, turns),
         "sign" => bench::signatures(set, turns),
         "verify" => bench::verdicts(set, turns),
         _ => return Err(format!("{what}: not measured")),
     };
     let last = to_hex(&measured.last);
     print(output, &format!("{:.1} {last}\n", measured.nanoseconds))
+}
+
+fn run_work(set: &str, output: &mut dyn Write) -> Result<(), Refusal> {
+    for work in bench::work(set_of(set)?) {
+        print(
+            output,
+            &format!("{} {}\n", work.permutations, work.products),
+        )?;
+    }
+    Ok(())
 }
 
 /// An argument that is the number of a set.

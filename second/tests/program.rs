@@ -142,6 +142,7 @@ fn help_names_every_subcommand() {
         "lend",
         "encrypt",
         "bench",
+        "work",
     ] {
         assert!(text.contains(&format!("second {name}")), "{name}");
     }
@@ -150,7 +151,7 @@ fn help_names_every_subcommand() {
 #[test]
 fn what_is_not_understood_is_refused() {
     let key = "80000000000000000000000000000000";
-    let refused: [&[&str]; 15] = [
+    let refused: [&[&str]; 17] = [
         &[],
         &["sign"],
         &["calls"],
@@ -161,6 +162,8 @@ fn what_is_not_understood_is_refused() {
         &["tables", "128", "43", "4"],
         &["lend", "0"],
         &["bench", "encrypt", "4", "1", "1"],
+        &["bench", "nothing", "1", "1", "1"],
+        &["work", "0"],
         &["bench", "encrypt", "1", "0", "1"],
         &["bench", "encrypt", "1", "1", "0"],
         &["encrypt", "4", key, key],

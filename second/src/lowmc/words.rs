@@ -94,6 +94,8 @@ impl Lowmc {
         index: usize,
         vectors: &[Block<W>; N],
     ) -> [Block<W>; N] {
+        #[cfg(test)]
+        crate::work::counted::add(0, N);
         let start = index * self.matrix_bytes();
         let matrix = &table[start..start + self.matrix_bytes()];
         if self.width() == 8 * W {
