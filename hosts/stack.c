@@ -1,24 +1,29 @@
-/* Measures the stack that each call uses: the call runs on a stack of its own that was filled with a pattern, and what is
-   no longer the pattern was used. */
+/* Measures the stack that calls use: stack FILE.., each a file of calls of one function. Every call of it that is not refused
+   runs on a stack of its own that was filled with a pattern, and what is no longer the pattern was used. Prints the most for
+   each function, from the host's own frame on, arguments included. */
 #define _XOPEN_SOURCE 700
 #include <stdio.h>
 #include <stdlib.h>
 #include <string.h>
 #include <ucontext.h>
 
+#include "format.h"
+#include "library.h"
 #include "picnic.h"
 
-enum { PATTERN = 0xa5, LONGEST = 1048576 };
+enum { PATTERN = 0xa5 };
 
-static unsigned char stack[1 << 20];
+static unsigned char stack[1 << 18];
 static ucontext_t outside, inside;
 
-/* What runs on the painted stack. */
-static void (*painted)(void);
+/* The call that runs on the painted stack, and what it answers. */
+static uint64_t (*painted)(const struct given *);
+static struct given given[MOST_ARGUMENTS];
+static volatile uint64_t answer;
 
 static void enter(void)
 {
-    painted();
+    answer = painted(given);
 }
 
 static void fail(const char *what)
@@ -39,11 +44,11 @@ static size_t used(void)
     return sizeof stack - unused;
 }
 
-/* The stack that a function uses. */
-static size_t used_by(void (*run)(void))
+/* The stack that a function uses with what is given. */
+static size_t used_by(uint64_t (*function)(const struct given *))
 {
     memset(stack, PATTERN, sizeof stack);
-    painted = run;
+    painted = function;
     if (getcontext(&inside) != 0)
         fail("no context");
     inside.uc_stack.ss_sp = stack;
@@ -55,57 +60,50 @@ static size_t used_by(void (*run)(void))
     return used();
 }
 
-/* The arguments of picnic_hash, and the function that takes them: the library's or, to know what is used without it, one
-   that does nothing. */
-static uint8_t input[LONGEST], output[LONGEST];
-static uint64_t set;
-static size_t input_length, output_length;
-static uint64_t (*hash)(uint64_t, const uint8_t *, size_t, uint8_t *, size_t);
-static volatile uint64_t answer;
-
-static uint64_t nothing(uint64_t s, const uint8_t *in, size_t in_length, uint8_t *out, size_t out_length)
+/* What is used without a call. */
+static uint64_t nothing(const struct given *none)
 {
-    return s + in_length + out_length + (in == out);
+    return none == NULL;
 }
 
-static void run_hash(void)
+static size_t used_by_call(const struct call *call, const struct function *function)
 {
-    answer = hash(set, input, input_length, output, output_length);
-}
+    size_t without = used_by(nothing), with;
 
-static size_t stack_of_hash(void)
-{
-    size_t without, with;
-
-    hash = nothing;
-    without = used_by(run_hash);
-    hash = picnic_hash;
-    with = used_by(run_hash);
-    if (answer != output_length)
-        fail("picnic_hash refuses");
+    give(given, call, 0, AT_ITS_PLACE);
+    with = used_by(function->make);
+    take_back(given, call);
+    if (answer != call->answer)
+        fail("a call answers something else");
     return with - without;
 }
 
-/* The most over the sets and over short and long slices. */
-static size_t most_of_hash(void)
+static void measure(const char *path)
 {
-    static const size_t lengths[] = { 0, 100, LONGEST };
-    size_t i, most = 0;
+    struct reader *reader = open_calls(path);
+    const struct function *function = NULL;
+    struct call call;
+    size_t most = 0;
 
-    for (i = 0; i < 3 * 3 * 3; i++) {
-        size_t bytes;
-        set = i / 9 + 1;
-        input_length = lengths[i / 3 % 3];
-        output_length = lengths[i % 3];
-        bytes = stack_of_hash();
-        most = bytes > most ? bytes : most;
+    while (next_call(reader, &call)) {
+        function = find_function(reader, &call);
+        if (PICNIC_REFUSAL(call.answer) == PICNIC_FINE) {
+            size_t bytes = used_by_call(&call, function);
+            most = bytes > most ? bytes : most;
+        }
+        free_call(&call);
     }
-    return most;
+    if (function == NULL)
+        fail("a file without a call");
+    printf("%-20s %10lu\n", function->name, (unsigned long)most);
+    close_calls(reader);
 }
 
-int main(void)
+int main(int argc, char **argv)
 {
+    int i;
     printf("%-20s %10s\n", "stack", "bytes");
-    printf("%-20s %10lu\n", "picnic_hash", (unsigned long)most_of_hash());
+    for (i = 1; i < argc; i++)
+        measure(argv[i]);
     return 0;
 }

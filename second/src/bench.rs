@@ -7,24 +7,23 @@ use crate::hashing::{derived_seeds, kdf};
 use crate::known::{Known, KNOWN};
 use crate::lowmc::Tables;
 use crate::picnic::Statement;
+use crate::round::Engine;
 use crate::sets::{Set, HIGHEST_BLOCK_LIMIT};
 use crate::shake::shake;
 use crate::signature::Signature;
-use crate::work::{Task, Work};
+use crate::work::{encryption, Task, Work};
 
 /// What was measured.
 pub struct Measured {
-    /// Nanoseconds for each time that the work was done: the median of the
-    /// turns.
+    /// Nanoseconds for each time that the work was done, in the quickest turn:
+    /// other work on the machine only ever adds.
     pub nanoseconds: f64,
     /// What the work led to, by which two programs can tell that they did the
     /// same.
     pub last: Vec<u8>,
 }
 
-/// How often work is done: so many times in each of so many turns. Turns are
-/// short, so that other work on the machine interrupts few of them and the
-/// median is not moved.
+/// How often work is done: so many times in each of so many turns.
 #[derive(Clone, Copy)]
 pub struct Turns {
     /// How many turns there are.
@@ -36,13 +35,13 @@ pub struct Turns {
 impl Turns {
     /// Nanoseconds for each time.
     fn measure(self, mut work: impl FnMut()) -> f64 {
-        let mut spent = Vec::new();
-        for _ in 0..self.turns {
+        let turn = |_| {
             let start = Instant::now();
             (0..self.times).for_each(|_| work());
-            spent.push(start.elapsed().as_nanos() as f64 / self.times as f64);
-        }
-        median(spent)
+            start.elapsed()
+        };
+        let least = (0..self.turns).map(turn).min().unwrap_or_default();
+        least.as_nanos() as f64 / self.times as f64
     }
 }
 
@@ -63,6 +62,27 @@ pub fn encryptions(set: &Set, turns: Turns) -> Measured {
     Measured {
         nanoseconds,
         last: block,
+    }
+}
+
+/// Times products in twos, as a round has them: of every matrix of the drawn
+/// tables and two vectors.
+pub fn products(set: &Set, turns: Turns) -> Measured {
+    match set.n.div_ceil(64) {
+        2 => products_in::<2>(set, turns),
+        3 => products_in::<3>(set, turns),
+        _ => products_in::<4>(set, turns),
+    }
+}
+
+fn products_in<const W: usize>(set: &Set, turns: Turns) -> Measured {
+    let tables = set.lowmc().tables();
+    let engine = Engine::<W>::new(set, &tables, &known(set).block());
+    let mut vectors = [[1; W], [2; W]];
+    let nanoseconds = turns.measure(|| vectors = engine.multiply(vectors));
+    Measured {
+        nanoseconds: nanoseconds / (2 * encryption(set).products) as f64,
+        last: vectors[0][0].to_be_bytes().into(),
     }
 }
 
@@ -154,9 +174,9 @@ pub fn verdicts(set: &'static Set, turns: Turns) -> Measured {
     }
 }
 
-/// How much work it is to sign that message, to sign it in two passes, and to
-/// verify the signature.
-pub fn work(set: &'static Set) -> [Work; 3] {
+/// How much work it is to encrypt a block, to sign that message, to sign it in
+/// two passes, and to verify the signature.
+pub fn work(set: &'static Set) -> [(&'static str, Work); 4] {
     let signer = Signer::new(set);
     let signature = signer.sign();
     let values = Signature::read(set, &signature).expect("it has its form");
@@ -171,13 +191,12 @@ pub fn work(set: &'static Set) -> [Work; 3] {
         values: &values.values,
         blocks: blocks as usize,
     };
-    [task.sign(), task.sign_again(), task.verify()]
-}
-
-/// The middle one by size; of an even number, the upper of the two.
-fn median(mut numbers: Vec<f64>) -> f64 {
-    numbers.sort_by(f64::total_cmp);
-    numbers[numbers.len() / 2]
+    [
+        ("encrypt", encryption(set)),
+        ("sign", task.sign()),
+        ("sign-again", task.sign_again()),
+        ("verify", task.verify()),
+    ]
 }
 
 #[cfg(test)]
@@ -186,11 +205,18 @@ mod tests {
     use crate::sets::SETS;
     use crate::work::counted;
 
+    /// As often as is asked for, and the quickest turn counts.
     #[test]
-    fn the_median_stands_in_the_middle() {
-        assert_eq!(median(vec![3.0]), 3.0);
-        assert_eq!(median(vec![9.0, 1.0, 5.0]), 5.0);
-        assert_eq!(median(vec![9.0, 10.0, 1.0, 5.0]), 9.0);
+    fn work_is_done_in_turns() {
+        let mut done = 0;
+        let nanoseconds = Turns { turns: 3, times: 5 }.measure(|| {
+            done += 1;
+            if done > 5 {
+                std::thread::sleep(std::time::Duration::from_millis(2));
+            }
+        });
+        assert_eq!(done, 15);
+        assert!(nanoseconds < 1e6);
     }
 
     /// The same chain by the encryption bit by bit.
@@ -219,13 +245,17 @@ mod tests {
     #[test]
     fn work_is_counted() {
         for set in &SETS {
-            let [sign, again, verify] = work(set);
+            let [encrypt, sign, again, verify] = work(set).map(|(_, work)| work);
             let signer = Signer::new(set);
             let mut signature = vec![];
             assert_eq!(counted::of(|| signature = signer.sign()), sign);
             let verdict = || assert_eq!(signer.statement().verify(&signature), Ok(()));
             assert_eq!(counted::of(verdict), verify);
             assert!(again.products > sign.products && again.permutations > sign.permutations);
+            let once = || drop(encryptions(set, Turns { turns: 1, times: 1 }));
+            assert_eq!(counted::of(once), encrypt);
+            let both = || drop(products(set, Turns { turns: 1, times: 1 }));
+            assert_eq!(counted::of(both).products, 2 * encrypt.products);
             let hash = || drop(permutations(set, Turns { turns: 1, times: 1 }));
             assert_eq!(counted::of(hash).permutations, HASHED / set.hash.rate() + 1);
         }

@@ -37,13 +37,15 @@ second lend SET
 second encrypt SET KEYHEX BLOCKHEX
     encrypt a block with the LowMC of set 1, 2 or 3 over its drawn tables and
     print the ciphertext in hex
-second bench {hash|encrypt|sign|verify} SET TURNS TIMES
+second bench {hash|encrypt|product|sign|verify} SET TURNS TIMES
     do one thing TIMES times in each of TURNS turns, and print the nanoseconds
-    of one time and what came of the last: hash a long input, by permutations;
-    encrypt what the last time gave; sign a message; verify a signature
+    of one time in the quickest turn, and what came of the last: hash a long
+    input, by permutations; encrypt what the last time gave; multiply all
+    matrices, by products; sign a message; verify a signature
 second work SET
-    print the permutations and the matrix products that it takes to sign that
-    message, to sign it in two passes, and to verify the signature, a line each
+    print the permutations and the matrix products that it takes to encrypt a
+    block, to sign that message, to sign it in two passes, and to verify the
+    signature, a line each
 ";
 
 /// What went wrong, in words for the user.
@@ -195,6 +197,7 @@ fn run_bench(
     let turns = Turns { turns, times };
     let measured = match what {
         "encrypt" => bench::encryptions(set, turns),
+        "product" => bench::products(set, turns),
         "hash" => bench::permutations(set, turns),
         "sign" => bench::signatures(set, turns),
         "verify" => bench::verdicts(set, turns),
@@ -205,11 +208,9 @@ fn run_bench(
 }
 
 fn run_work(set: &str, output: &mut dyn Write) -> Result<(), Refusal> {
-    for work in bench::work(set_of(set)?) {
-        print(
-            output,
-            &format!("{} {}\n", work.permutations, work.products),
-        )?;
+    for (name, work) in bench::work(set_of(set)?) {
+        let (permutations, products) = (work.permutations, work.products);
+        print(output, &format!("{name} {permutations} {products}\n"))?;
     }
     Ok(())
 }

@@ -51,8 +51,16 @@ fn commitment(set: &Set) -> usize {
 }
 
 /// Products of an encryption, or of one party of a round.
-pub fn products(set: &Set) -> usize {
+fn products(set: &Set) -> usize {
     2 * set.r + 1
+}
+
+/// An encryption.
+pub fn encryption(set: &Set) -> Work {
+    Work {
+        permutations: 0,
+        products: products(set),
+    }
 }
 
 impl Task<'_> {
