@@ -77,7 +77,7 @@ pub fn products(set: &Set, turns: Turns) -> Measured {
 
 fn products_in<const W: usize>(set: &Set, turns: Turns) -> Measured {
     let tables = set.lowmc().tables();
-    let engine = Engine::<W>::new(set, &tables, &known(set).block());
+    let engine = Engine::<W, 1>::new(set, &tables, &known(set).block());
     let mut vectors = [[1; W], [2; W]];
     let nanoseconds = turns.measure(|| vectors = engine.multiply(vectors));
     Measured {

@@ -76,7 +76,7 @@ impl Statement<'_> {
     }
 
     fn sign_in<const W: usize>(&self, secret: &[u8], seeds: &[u8]) -> Result<Vec<u8>, Refusal> {
-        let engine = Engine::<W>::new(self.set, self.tables, self.block());
+        let engine = Engine::<W, 1>::new(self.set, self.tables, self.block());
         let encryption = engine.encryption(secret);
         if engine.ciphertext(&encryption) != self.ciphertext() {
             return Err(Refusal::Pair);
@@ -143,7 +143,7 @@ impl Statement<'_> {
 
     /// The challenge that the rounds of a signature lead to.
     fn challenge_of<const W: usize>(&self, signature: &Signature) -> Option<Vec<u8>> {
-        let engine = Engine::<W>::new(self.set, self.tables, self.block());
+        let engine = Engine::<W, 1>::new(self.set, self.tables, self.block());
         let rounds = signature.values.iter().zip(&signature.openings).enumerate();
         let shown: Vec<Shown> = rounds
             .map(|(t, (&value, opening))| {

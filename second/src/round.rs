@@ -280,9 +280,9 @@ mod tests {
     }
 
     /// Both rounds on words are those bit by bit.
-    fn check_words<const W: usize>(set: &Set, noise: &mut Noise) {
+    fn check_words<const W: usize, const G: usize>(set: &Set, noise: &mut Noise) {
         let given = Given::new(set, noise);
-        let engine = Engine::<W>::new(set, &given.tables, &given.block);
+        let engine = Engine::<W, G>::new(set, &given.tables, &given.block);
         let views = given.simulate(set);
         let encryption = engine.encryption(&given.secret);
         assert_eq!(engine.simulate(&encryption, &given.tapes), views);
@@ -303,10 +303,12 @@ mod tests {
     fn words_are_as_bits() {
         let mut noise = Noise::new(13);
         for set in sets().iter().chain(&SETS) {
-            match set.n.div_ceil(64) {
-                2 => check_words::<2>(set, &mut noise),
-                3 => check_words::<3>(set, &mut noise),
-                _ => check_words::<4>(set, &mut noise),
+            match (set.n.div_ceil(64), (3 * set.s).div_ceil(64)) {
+                (2, 1) => check_words::<2, 1>(set, &mut noise),
+                (2, 2) => check_words::<2, 2>(set, &mut noise),
+                (3, 1) => check_words::<3, 1>(set, &mut noise),
+                (4, 1) => check_words::<4, 1>(set, &mut noise),
+                other => panic!("no set has {other:?} words"),
             }
         }
     }

@@ -14,14 +14,16 @@ use crate::lowmc::{Lowmc, Tables};
 use crate::sets::Set;
 
 /// A set with its tables and a plaintext block, ready to compute rounds on
-/// blocks of W words.
-pub struct Engine<'a, const W: usize> {
+/// blocks of W words, of which the first G have all S-boxes.
+pub struct Engine<'a, const W: usize, const G: usize> {
     set: &'a Set,
     cipher: Lowmc,
     tables: &'a Tables,
     block: Block<W>,
     /// The first bit of each S-box.
-    firsts: Block<W>,
+    firsts: Block<G>,
+    /// All bits of the S-boxes.
+    inside: Block<G>,
 }
 
 /// The states of an encryption: before each of the r layers of S-boxes, and
@@ -34,26 +36,29 @@ pub struct Encryption<const W: usize> {
 /// A party's shares of the bits c, b and a of all S-boxes, and its bits of the
 /// tape for the gates ab, bc and ca, each at the first places.
 #[derive(Clone, Copy)]
-struct Wires<const W: usize> {
-    a: Block<W>,
-    b: Block<W>,
-    c: Block<W>,
-    tape: [Block<W>; 3],
+struct Wires<const G: usize> {
+    a: Block<G>,
+    b: Block<G>,
+    c: Block<G>,
+    tape: [Block<G>; 3],
 }
 
 /// A party's shares of the gates ab, bc and ca, at the first places.
-type Gates<const W: usize> = [Block<W>; 3];
+type Gates<const G: usize> = [Block<G>; 3];
 
-impl<'a, const W: usize> Engine<'a, W> {
+impl<'a, const W: usize, const G: usize> Engine<'a, W, G> {
     /// The engine for a plaintext block.
     pub fn new(set: &'a Set, tables: &'a Tables, block: &[u8]) -> Self {
+        assert!(G <= W && 3 * set.s <= 64 * G, "all S-boxes lie in G words");
         let cipher = set.lowmc();
+        let firsts = cipher.firsts();
         Engine {
             set,
             cipher,
             tables,
             block: cipher.block(block),
-            firsts: cipher.firsts(),
+            firsts,
+            inside: three_places(&firsts, &firsts, &firsts),
         }
     }
 
@@ -84,7 +89,7 @@ impl<'a, const W: usize> Engine<'a, W> {
                 states[1],
                 third(encryption.states[i - 1], &states),
             ];
-            let wires: [Wires<W>; 3] = from_fn(|j| self.wires(&all[j], &tapes[j], j, i));
+            let wires: [Wires<G>; 3] = from_fn(|j| self.wires(&all[j], &tapes[j], j, i));
             for j in 0..3 {
                 let gates = and(&wires[j], &wires[(j + 1) % 3]);
                 transcripts[j].push(&three_places(&gates[0], &gates[1], &gates[2]), self.gates());
@@ -126,7 +131,7 @@ impl<'a, const W: usize> Engine<'a, W> {
         let mut found = Transcript::new(self.set);
         let mut states = self.started(&keys, constants_to);
         for i in 1..=self.set.r {
-            let wires: [Wires<W>; 2] =
+            let wires: [Wires<G>; 2] =
                 from_fn(|j| self.wires(&states[j], &tapes[j], opened(value, j), i));
             let first = and(&wires[0], &wires[1]);
             found.push(&three_places(&first[0], &first[1], &first[2]), self.gates());
@@ -188,9 +193,9 @@ impl<'a, const W: usize> Engine<'a, W> {
     }
 
     /// What a party has at the gates of LowMC round i.
-    fn wires(&self, state: &Block<W>, tape: &Bits, party: usize, i: usize) -> Wires<W> {
+    fn wires(&self, state: &Block<W>, tape: &Bits, party: usize, i: usize) -> Wires<G> {
         let place = gates_start(self.set, party) + self.gates() * (i - 1);
-        let [c, b, a] = self.thirds(state);
+        let [c, b, a] = self.thirds(&from_fn(|word| state[word]));
         Wires {
             a,
             b,
@@ -201,21 +206,24 @@ impl<'a, const W: usize> Engine<'a, W> {
 
     /// The bits of a string at the first, second and third places of the
     /// S-boxes, brought to the first places.
-    fn thirds(&self, bits: &Block<W>) -> [Block<W>; 3] {
+    fn thirds(&self, bits: &Block<G>) -> [Block<G>; 3] {
         let (second, third) = (forward(bits, 1), forward(bits, 2));
         [bits, &second, &third].map(|bits| from_fn(|i| bits[i] & self.firsts[i]))
     }
 
     /// A party's state after the S-boxes.
-    fn substituted(&self, state: &Block<W>, wires: &Wires<W>, gates: &Gates<W>) -> Block<W> {
+    fn substituted(&self, state: &Block<W>, wires: &Wires<G>, gates: &Gates<G>) -> Block<W> {
         let Wires { a, b, c, .. } = wires;
         let [ab, bc, ca] = gates;
-        let new_a: Block<W> = from_fn(|i| a[i] ^ bc[i]);
-        let new_b: Block<W> = from_fn(|i| a[i] ^ b[i] ^ ca[i]);
-        let new_c: Block<W> = from_fn(|i| a[i] ^ b[i] ^ c[i] ^ ab[i]);
-        let inside = three_places(&self.firsts, &self.firsts, &self.firsts);
+        let new_a: Block<G> = from_fn(|i| a[i] ^ bc[i]);
+        let new_b: Block<G> = from_fn(|i| a[i] ^ b[i] ^ ca[i]);
+        let new_c: Block<G> = from_fn(|i| a[i] ^ b[i] ^ c[i] ^ ab[i]);
         let new = three_places(&new_c, &new_b, &new_a);
-        from_fn(|i| state[i] & !inside[i] | new[i])
+        let mut state = *state;
+        for i in 0..G {
+            state[i] = state[i] & !self.inside[i] | new[i];
+        }
+        state
     }
 
     fn bytes(&self, block: &Block<W>) -> Vec<u8> {
@@ -224,8 +232,8 @@ impl<'a, const W: usize> Engine<'a, W> {
 }
 
 /// A party's shares of all gates, from its own wires and the next party's.
-fn and<const W: usize>(own: &Wires<W>, next: &Wires<W>) -> Gates<W> {
-    let gate = |x: &Block<W>, y: &Block<W>, next_x: &Block<W>, next_y: &Block<W>, k: usize| {
+fn and<const G: usize>(own: &Wires<G>, next: &Wires<G>) -> Gates<G> {
+    let gate = |x: &Block<G>, y: &Block<G>, next_x: &Block<G>, next_y: &Block<G>, k: usize| {
         from_fn(|i| {
             (x[i] & (y[i] ^ next_y[i])) ^ (next_x[i] & y[i]) ^ own.tape[k][i] ^ next.tape[k][i]
         })
@@ -253,8 +261,8 @@ impl Bits {
         Bits { words }
     }
 
-    /// The 64·W bits from a place on.
-    fn at<const W: usize>(&self, place: usize) -> Block<W> {
+    /// The 64·G bits from a place on.
+    fn at<const G: usize>(&self, place: usize) -> Block<G> {
         let word = |i: usize| self.words.get(i).copied().unwrap_or(0);
         let (first, by) = (place / 64, place % 64);
         from_fn(|i| {
@@ -283,7 +291,7 @@ impl Transcript {
     }
 
     /// Appends the first bits of a string, whose other bits are zero.
-    fn push<const W: usize>(&mut self, bits: &Block<W>, count: usize) {
+    fn push<const G: usize>(&mut self, bits: &Block<G>, count: usize) {
         let (first, by) = (self.length / 64, self.length % 64);
         for (i, word) in bits.iter().enumerate().take(count.div_ceil(64)) {
             self.words[first + i] |= word >> by;
