@@ -7,6 +7,7 @@ pub mod damaged;
 pub mod faults;
 pub mod hash;
 pub mod lowmc;
+pub mod published;
 pub mod seeds;
 pub mod sign;
 pub mod signature;
@@ -443,13 +444,16 @@ answer 0x600000000
         assert_eq!(sheet.bytes(&all[3..]), [1, 2, 3, 4, 2, 3]);
     }
 
+    /// A change to a string, and how it is written then.
+    type Written = (fn(&mut Vec<u8>), &'static str);
+
     /// Strings that differ from a defined one: in no byte, at the start, inside
     /// twice, in length.
     #[test]
     fn lent_strings_are_written_as_what_they_differ_in() {
         let mut sheet = Sheet::default();
         sheet.define("s", vec![Piece::Zeros(200)]);
-        let changes: [(fn(&mut Vec<u8>), &str); 7] = [
+        let changes: [Written; 7] = [
             (|_| (), " named:s"),
             (|x| x[0] = 1, " hex:01 part:s:1:199"),
             (

@@ -18,6 +18,7 @@ pub mod hashing;
 pub mod hex;
 pub mod keccak;
 pub mod known;
+pub mod known_answers;
 pub mod lowmc;
 pub mod noise;
 pub mod picnic;

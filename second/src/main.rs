@@ -9,6 +9,7 @@ use second::answers::REFUSALS;
 use second::bench::{self, Turns};
 use second::calls;
 use second::hex::{from_hex, to_hex};
+use second::known_answers;
 use second::lowmc::Lowmc;
 use second::sets::{
     Set, HIGHEST_BLOCK_LIMIT, LONGEST_HASH_OUTPUT, LONGEST_MESSAGE, SALT_BYTES, SETS,
@@ -25,6 +26,11 @@ second calls {hash|encrypt|public_key|seeds|challenge|read|write|sign|verify}
     host to make
 second calls damaged
     print calls of verify with many damaged signatures
+second answers SET COUNT
+    sign COUNT messages under set 1, 2 or 3 and print keys, messages and
+    signatures in the form in which Picnic's known answers are published
+second published
+    read known answers of that form and print them as calls
 second shake {128|256} OUTLEN
     hash standard input and print OUTLEN bytes of output in hex
 second tables N S R
@@ -72,6 +78,8 @@ fn run(arguments: &[String], input: &mut dyn Read, output: &mut dyn Write) -> Re
         ["help"] => print(output, HELP),
         ["constants"] => run_constants(output),
         ["calls", function] => run_calls(function, output),
+        ["answers", set, count] => run_answers(set, count, output),
+        ["published"] => run_published(input, output),
         ["shake", which, length] => run_shake(which, length, input, output),
         ["tables", n, s, r] => run_tables(n, s, r, output),
         ["lend", set] => run_lend(set, output),
@@ -124,6 +132,17 @@ fn run_calls(function: &str, output: &mut dyn Write) -> Result<(), Refusal> {
     print(output, &sheet.to_string())
 }
 
+fn run_answers(set: &str, count: &str, output: &mut dyn Write) -> Result<(), Refusal> {
+    let answers = known_answers::own(set_of(set)?, number("COUNT", count)?);
+    print(output, &known_answers::write(&answers))
+}
+
+fn run_published(input: &mut dyn Read, output: &mut dyn Write) -> Result<(), Refusal> {
+    let text = String::from_utf8(all(input)?).map_err(|_| "standard input is no text")?;
+    let sheet = calls::published::sheet(&known_answers::read(&text)?);
+    print(output, &sheet.to_string())
+}
+
 fn run_shake(
     which: &str,
     length: &str,
@@ -136,10 +155,7 @@ fn run_shake(
         _ => return Err(format!("{which}: neither 128 nor 256")),
     };
     let mut left: u64 = number("OUTLEN", length)?;
-    let mut message = Vec::new();
-    input
-        .read_to_end(&mut message)
-        .map_err(|error| format!("standard input: {error}"))?;
+    let message = all(input)?;
     let mut sponge = Sponge::new(hash);
     sponge.absorb(&message);
     let mut stream = sponge.close();
@@ -231,6 +247,15 @@ fn bytes(name: &str, text: &str, length: usize) -> Result<Vec<u8>, Refusal> {
     from_hex(text)
         .filter(|bytes| bytes.len() == length)
         .ok_or_else(|| format!("{name}: {length} bytes in hex are wanted"))
+}
+
+/// All of standard input.
+fn all(input: &mut dyn Read) -> Result<Vec<u8>, Refusal> {
+    let mut bytes = Vec::new();
+    match input.read_to_end(&mut bytes) {
+        Ok(_) => Ok(bytes),
+        Err(error) => Err(format!("standard input: {error}")),
+    }
 }
 
 fn print(output: &mut dyn Write, text: &str) -> Result<(), Refusal> {

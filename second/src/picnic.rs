@@ -166,10 +166,10 @@ impl Statement<'_> {
         let third = shares.zip(self.ciphertext()).map(|((x, y), c)| x ^ y ^ c);
         let mut outputs = [(); 3].map(|()| vec![]);
         let mut commitments = [(); 3].map(|()| vec![]);
-        for place in 0..2 {
+        for (place, (view, seed)) in views.iter().zip(&opening.seeds).enumerate() {
             let party = opened(value, place);
-            outputs[party] = views[place].output.clone();
-            commitments[party] = self.commitment(&opening.seeds[place], &views[place]);
+            outputs[party] = view.output.clone();
+            commitments[party] = self.commitment(seed, view);
         }
         outputs[opened(value, 2)] = third.collect();
         commitments[opened(value, 2)] = opening.commitment.clone();

@@ -165,6 +165,7 @@ impl Signature {
 #[cfg(test)]
 mod tests {
     use super::*;
+    use crate::calls::strings::of_noise;
     use crate::noise::Noise;
     use crate::sets::SETS;
 
@@ -215,26 +216,7 @@ mod tests {
 
     /// A signature of noise with these values.
     fn signature(set: &Set, values: Vec<u8>) -> Signature {
-        let mut noise = Noise::new(7);
-        let mut opening = |value| {
-            let mut opening = Opening {
-                commitment: noise.bytes(set.digest_bytes),
-                transcript: noise.bytes(set.transcript_bytes()),
-                seeds: [(); 2].map(|()| noise.bytes(set.seed_width())),
-                share: noise.bytes(set.share_bytes(value)),
-            };
-            if set.number != 1 {
-                *opening.transcript.last_mut().unwrap() &= 0xf0;
-            }
-            opening
-        };
-        let openings = values.iter().map(|&value| opening(value)).collect();
-        let salt = vec![5; SALT_BYTES];
-        Signature {
-            values,
-            salt,
-            openings,
-        }
+        of_noise(set, values, &mut Noise::new(7))
     }
 
     fn mixed(set: &Set) -> Signature {
@@ -266,7 +248,7 @@ mod tests {
         let [first, second] = [&signature.openings[0], &signature.openings[1]];
         assert_eq!(signature.values[..2], [0, 1]);
         assert_eq!(unpacked[..219], signature.values);
-        assert_eq!(unpacked[219..251], [5; 32]);
+        assert_eq!(unpacked[219..251], signature.salt);
         assert_eq!(unpacked[251..283], first.commitment);
         assert_eq!(unpacked[283..358], first.transcript);
         assert_eq!(unpacked[358..374], first.seeds[0]);

@@ -66,6 +66,8 @@ fn calls_go_to_the_function_that_is_asked_for() {
         "challenge",
         "read",
         "write",
+        "sign",
+        "verify",
     ] {
         let output = run(&["calls", function], b"");
         let text = String::from_utf8_lossy(&output.stdout).into_owned();
@@ -74,6 +76,23 @@ fn calls_go_to_the_function_that_is_asked_for() {
         assert!(text.contains("\ncall "), "{function}");
         assert!(calls.all(|call| call.ends_with(&end)), "{function}");
     }
+}
+
+/// Known answers go out and come back in as calls.
+#[test]
+fn known_answers_become_calls() {
+    let answers = run(&["answers", "1", "1"], b"");
+    assert!(answers.status.success());
+    let text = String::from_utf8_lossy(&answers.stdout).into_owned();
+    assert!(text.contains("\ncount = 0\n") && text.contains("\npk = 01"));
+    let output = run(&["published"], &answers.stdout);
+    let calls = String::from_utf8_lossy(&output.stdout).into_owned();
+    assert!(calls.contains("\ncall sign-known-set1-0 picnic_sign\n"));
+    let output = run(
+        &["published"],
+        text.replace("mlen = 33", "mlen = 3").as_bytes(),
+    );
+    assert_eq!(output.status.code(), Some(1));
 }
 
 /// All tables in one run of bytes, in the order in which a host lends them.
@@ -137,6 +156,8 @@ fn help_names_every_subcommand() {
         "help",
         "constants",
         "calls",
+        "answers",
+        "published",
         "shake",
         "tables",
         "lend",

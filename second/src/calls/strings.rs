@@ -189,7 +189,8 @@ fn fault(refusal: Refusal, (name, change): Change) -> Wrong {
 /// Padding of a transcript that ends at a place, if it has any.
 fn padding_fault(set: &Set, end: usize) -> Option<Wrong> {
     let spoil = change("padding".into(), move |bytes| bytes[end - 1] |= 1);
-    (set.transcript_bits() % 8 != 0).then(|| fault(Refusal::Padding, spoil))
+    let padded = 8 * set.transcript_bytes() > set.transcript_bits();
+    padded.then(|| fault(Refusal::Padding, spoil))
 }
 
 /// What can be wrong with a signature.

@@ -49,6 +49,9 @@ fn verdict(case: &Case, sheet: &Sheet) -> Verdict {
     case.shared.statement(&held).verify(&case.signature.bytes)
 }
 
+/// A change to what is signed, with its name.
+type Other<'a> = (&'a str, &'a dyn Fn(&mut Shared));
+
 /// The calls and the source of their inputs.
 pub struct Maker {
     /// The calls.
@@ -139,7 +142,7 @@ impl Maker {
     fn others(&mut self, set: &Set) {
         let case = self.case("noise", set, 60);
         let w = set.width();
-        let changes: [(&str, &dyn Fn(&mut Shared)); 7] = [
+        let changes: [Other; 7] = [
             ("message", &|s| s.message = Piece::Zeros(60)),
             ("ciphertext", &|s| s.public[0] ^= 0x80),
             ("block", &|s| s.public[w] ^= 0x80),
