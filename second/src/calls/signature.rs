@@ -196,6 +196,65 @@ impl Maker {
         }
     }
 
+    /// A string of zeros of this length with one other byte, and the refusal
+    /// that 01 gives for it, if any.
+    fn example(&mut self, set: &Set, length: usize, at: (usize, u8), expected: Option<Refusal>) {
+        let name = format!("nothing-{}", set.number);
+        let mut bytes = vec![0; length];
+        if let Some(byte) = bytes.get_mut(at.0) {
+            *byte = at.1;
+        }
+        let case = Case {
+            set: set.number,
+            given: Lent {
+                name: name.clone(),
+                bytes,
+            },
+            output: self.function.needed(set),
+            written: name,
+        };
+        let label = format!("example-set{}-{length}-{at:?}", set.number);
+        let outcome = self.add(label.replace(' ', ""), case);
+        assert_eq!(outcome.err(), expected, "{length}, {at:?}");
+    }
+
+    /// The examples that 01 gives with their numbers, and in the unpacked form
+    /// what they come from.
+    fn examples(&mut self) {
+        use Refusal::{Header, Padding, WrongLength};
+        for set in &SETS {
+            let zeros = vec![Piece::Zeros(set.unpacked_bytes())];
+            self.sheet.define(&format!("nothing-{}", set.number), zeros);
+        }
+        let [first, second, _] = &SETS;
+        match self.function {
+            Function::Read => {
+                self.example(first, 30_528, (54, 0x00), None);
+                self.example(first, 30_544, (54, 0x04), None);
+                self.example(first, 30_544, (54, 0x01), Some(Header));
+                self.example(first, 30_544, (54, 0x0c), Some(Header));
+                self.example(first, 30_528, (54, 0x04), Some(WrongLength));
+                self.example(first, 30_527, (54, 0x00), Some(WrongLength));
+                self.example(first, 0, (0, 0x00), Some(WrongLength));
+                let last = 83 + 32 + 328 * (48 + 113 + 48) + 48 + 112;
+                let least = second.signature_bytes(&[0; 329]);
+                self.example(second, least, (last, 0x10), None);
+                self.example(second, least, (last, 0x01), Some(Padding));
+            }
+            Function::Write => {
+                self.example(first, 34_196, (218, 0), None);
+                self.example(first, 34_196, (218, 1), None);
+                self.example(first, 34_196, (218, 3), Some(Header));
+                self.example(first, 34_195, (218, 0), Some(WrongLength));
+                let share = 34_196 - 16;
+                self.example(first, 34_196, (share, 1), Some(Padding));
+                let last = 77_018 - 24 - 48 - 1;
+                self.example(second, 77_018, (last, 0x10), None);
+                self.example(second, 77_018, (last, 0x08), Some(Padding));
+            }
+        }
+    }
+
     fn set(&mut self, set: &Set) {
         for mix in MIXES {
             let values = self.define(mix, set);
@@ -247,6 +306,7 @@ pub fn sheet(function: Function) -> Sheet {
         sheet: Sheet::default(),
         noise: Noise::new(SEED),
     };
+    maker.examples();
     for set in &SETS {
         maker.set(set);
     }
@@ -316,28 +376,20 @@ mod tests {
         }
     }
 
-    /// The examples of 01 are among the calls.
+    /// A signature of set 1 whose values are all 0 has 30,528 bytes, and one
+    /// with one value that is not 0 has 30,544.
     #[test]
-    fn examples_of_01() {
-        let [read, _] = sheets();
+    fn lengths_of_01() {
+        let [_, write] = sheets();
         let answer = |label: &str| {
-            let mut calls = read.calls().iter();
+            let mut calls = write.calls().iter();
             let found = calls.find(|call| call.label == label);
-            found.expect("there is such a call").answer >> 32
+            found.expect("there is such a call").answer
         };
-        for (label, expected) in [
-            ("read-zeros-set1-more0", 0),
-            ("read-zeros-set1-length-to30527", 9),
-            ("read-zeros-set1-length-to30529", 9),
-            ("read-one-set1-length-to30544", 0),
-            ("read-zeros-set1-header-padding439", 10),
-            ("read-zeros-set1-value218-from0-to3", 10),
-            ("read-zeros-set1-value218-from0-to1", 9),
-            ("read-zeros-set2-transcript328-bit0", 11),
-            ("read-zeros-set2-transcript328-bit4", 0),
-            ("read-zeros-set1-transcript218-bit0", 0),
-        ] {
-            assert_eq!(answer(label), expected, "{label}");
-        }
+        assert_eq!(answer("write-zeros-set1-more0"), 30_528);
+        assert_eq!(answer("write-one-set1-more0"), 30_544);
+        assert_eq!(answer("write-twos-set1-more0"), 34_032);
+        assert_eq!(answer("write-example-set1-34196-(218,0)"), 30_528);
+        assert_eq!(answer("write-example-set1-34196-(218,1)"), 30_544);
     }
 }
