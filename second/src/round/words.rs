@@ -79,16 +79,11 @@ impl<'a, const W: usize, const G: usize> Engine<'a, W, G> {
     /// Simulates three parties, as `super::simulate` does.
     pub fn simulate(&self, encryption: &Encryption<W>, tapes: &[Vec<u8>; 3]) -> [View; 3] {
         let keys = [0, 1].map(|j| self.cipher.block(&tapes[j]));
-        let third = |whole: Block<W>, two: &[Block<W>; 2]| xor(whole, xor(two[0], two[1]));
         let tapes: [Bits; 3] = from_fn(|j| Bits::new(&tapes[j]));
         let mut transcripts = [(); 3].map(|()| Transcript::new(self.set));
         let mut states = self.started(&keys, Some(0));
         for i in 1..=self.set.r {
-            let all = [
-                states[0],
-                states[1],
-                third(encryption.states[i - 1], &states),
-            ];
+            let all = three(&states, encryption.states[i - 1]);
             let wires: [Wires<G>; 3] = from_fn(|j| self.wires(&all[j], &tapes[j], j, i));
             for j in 0..3 {
                 let gates = and(&wires[j], &wires[(j + 1) % 3]);
@@ -99,12 +94,8 @@ impl<'a, const W: usize, const G: usize> Engine<'a, W, G> {
             }
             states = self.layered(&states, &keys, Some(0), i);
         }
-        let inputs = [keys[0], keys[1], third(encryption.key, &keys)];
-        let outputs = [
-            states[0],
-            states[1],
-            third(encryption.states[self.set.r], &states),
-        ];
+        let inputs = three(&keys, encryption.key);
+        let outputs = three(&states, encryption.states[self.set.r]);
         let [x, y, z] = transcripts;
         [(0, x), (1, y), (2, z)].map(|(j, transcript)| View {
             input: self.bytes(&inputs[j]),
@@ -229,6 +220,11 @@ impl<'a, const W: usize, const G: usize> Engine<'a, W, G> {
     fn bytes(&self, block: &Block<W>) -> Vec<u8> {
         self.cipher.block_bytes(block)
     }
+}
+
+/// Two shares and the third, by what all of them add up to.
+fn three<const W: usize>(two: &[Block<W>; 2], sum: Block<W>) -> [Block<W>; 3] {
+    [two[0], two[1], xor(sum, xor(two[0], two[1]))]
 }
 
 /// A party's shares of all gates, from its own wires and the next party's.
