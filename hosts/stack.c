@@ -1,6 +1,6 @@
 /* Measures the stack that calls use: stack FILE.., each a file of calls of one function. Every call of it that is not refused
    runs on a stack of its own that was filled with a pattern, and what is no longer the pattern was used. Prints the most for
-   each function, from the host's own frame on, arguments included. */
+   each function, below the host's frame: return addresses and arguments that are passed on the stack are included. */
 #define _XOPEN_SOURCE 700
 #include <stdio.h>
 #include <stdlib.h>
@@ -16,14 +16,22 @@ enum { PATTERN = 0xa5 };
 static unsigned char stack[1 << 18];
 static ucontext_t outside, inside;
 
-/* The call that runs on the painted stack, and what it answers. */
+/* The call that runs on the painted stack, what it answers, and how far below the frame that makes it the stack was used. */
 static uint64_t (*painted)(const struct given *);
 static struct given given[MOST_ARGUMENTS];
 static volatile uint64_t answer;
+static size_t depth;
 
+/* Runs the call, and looks for the lowest byte that is not the pattern before anything else uses the stack. */
 static void enter(void)
 {
+    volatile unsigned char frame = 0;
+    size_t unused = 0;
+
     answer = painted(given);
+    while (stack[unused] == PATTERN)
+        unused++;
+    depth = unused == 0 ? 0 : (size_t)((uintptr_t)&frame - (uintptr_t)&stack[unused]);
 }
 
 static void fail(const char *what)
@@ -32,23 +40,9 @@ static void fail(const char *what)
     exit(1);
 }
 
-/* Bytes from the top of the stack to the lowest one that is not the pattern. */
-static size_t used(void)
-{
-    size_t unused = 0;
-
-    while (unused < sizeof stack && stack[unused] == PATTERN)
-        unused++;
-    if (unused == 0)
-        fail("the stack is too small");
-    return sizeof stack - unused;
-}
-
-/* The stack that a function uses with what is given. */
-static size_t used_by(uint64_t (*function)(const struct given *))
+static void run_painted(void)
 {
     memset(stack, PATTERN, sizeof stack);
-    painted = function;
     if (getcontext(&inside) != 0)
         fail("no context");
     inside.uc_stack.ss_sp = stack;
@@ -57,25 +51,20 @@ static size_t used_by(uint64_t (*function)(const struct given *))
     makecontext(&inside, enter, 0);
     if (swapcontext(&outside, &inside) != 0)
         fail("no other stack");
-    return used();
+    if (depth == 0)
+        fail("the stack is too small");
 }
 
-/* What is used without a call. */
-static uint64_t nothing(const struct given *none)
+/* The stack that a call uses. */
+static size_t used_by(const struct call *call, const struct function *function)
 {
-    return none == NULL;
-}
-
-static size_t used_by_call(const struct call *call, const struct function *function)
-{
-    size_t without = used_by(nothing), with;
-
     give(given, call, 0, AT_ITS_PLACE);
-    with = used_by(function->make);
+    painted = function->make;
+    run_painted();
     take_back(given, call);
     if (answer != call->answer)
         fail("a call answers something else");
-    return with - without;
+    return depth;
 }
 
 static void measure(const char *path)
@@ -88,7 +77,7 @@ static void measure(const char *path)
     while (next_call(reader, &call)) {
         function = find_function(reader, &call);
         if (PICNIC_REFUSAL(call.answer) == PICNIC_FINE) {
-            size_t bytes = used_by_call(&call, function);
+            size_t bytes = used_by(&call, function);
             most = bytes > most ? bytes : most;
         }
         free_call(&call);
