@@ -6,37 +6,9 @@
 #include <unistd.h>
 
 #include "format.h"
+#include "library.h"
 #include "picnic.h"
 #include "slices.h"
-
-/* An argument as the call gets it. */
-struct given {
-    uint64_t number;
-    struct slice slice;
-};
-
-/* A number and a slice as a function takes them. */
-#define N(i) given[i].number
-#define S(i) given[i].slice.start, given[i].slice.length
-
-/* functions.h is made from the header and has a line for each function: its name, the kinds of its arguments, and the
-   arguments as it takes them. */
-#define FUNCTION(name, kinds, ...)                                                                                     \
-    static uint64_t make_##name(const struct given *given)                                                             \
-    {                                                                                                                  \
-        return name(__VA_ARGS__);                                                                                      \
-    }
-#include "functions.h"
-#undef FUNCTION
-
-#define FUNCTION(name, kinds, ...) { #name, kinds, make_##name },
-static const struct function {
-    const char *name;
-    const char *kinds;
-    uint64_t (*make)(const struct given *);
-} functions[] = {
-#include "functions.h"
-};
 
 /* Each call is made in several ways: the pattern as it is or turned, so that a byte that was left out, or written where none
    may be, is not right by chance each time; and another pointer for slices of length 0. Of calls without such a slice the
@@ -48,9 +20,14 @@ static const struct way {
 
 enum { WAYS = sizeof ways / sizeof ways[0] };
 
+/* Whether the first way is to be enough. */
+static int once;
+
 static int count_ways(const struct call *call)
 {
     int i;
+    if (once)
+        return 1;
     for (i = 0; i < call->count; i++)
         if (call->arguments[i].kind != NUMBER && call->arguments[i].length == 0)
             return WAYS;
@@ -69,35 +46,6 @@ static void crashed(int number)
     _exit(3);
 }
 
-static const struct function *find_function(const struct reader *reader, const struct call *call)
-{
-    size_t i;
-    for (i = 0; i < sizeof functions / sizeof functions[0]; i++)
-        if (strcmp(functions[i].name, call->function) == 0)
-            return &functions[i];
-    malformed(reader, "a function that the host does not know");
-    return NULL;
-}
-
-static void check_kinds(const struct reader *reader, const struct call *call, const struct function *function)
-{
-    int i;
-    if ((size_t)call->count != strlen(function->kinds))
-        malformed(reader, "the function takes another number of arguments");
-    for (i = 0; i < call->count; i++)
-        if (call->arguments[i].kind != function->kinds[i])
-            malformed(reader, "the function takes arguments of other kinds");
-}
-
-static void give(struct given *given, const struct argument *argument, const struct way *way)
-{
-    static uint64_t x = 1;
-    if (argument->kind == NUMBER)
-        given->number = argument->number;
-    else
-        place_slice(&given->slice, argument, noise(&x) % 16, way->mask, way->empty);
-}
-
 static int check_answer(const struct call *call, uint64_t answer)
 {
     if (answer == call->answer)
@@ -114,16 +62,14 @@ static int make_call(const struct call *call, const struct function *function, c
     struct given given[MOST_ARGUMENTS];
     int i, fine;
 
-    for (i = 0; i < call->count; i++)
-        give(&given[i], &call->arguments[i], way);
+    give(given, call, way->mask, way->empty);
     fflush(stdout);
     current = call->label;
     fine = check_answer(call, function->make(given));
     for (i = 0; i < call->count; i++)
-        if (call->arguments[i].kind != NUMBER) {
+        if (call->arguments[i].kind != NUMBER)
             fine &= check_slice(&given[i].slice, call->label, i + 1);
-            free_slice(&given[i].slice);
-        }
+    take_back(given, call);
     return fine;
 }
 
@@ -142,15 +88,14 @@ int main(int argc, char **argv)
     int i;
     unsigned long passed = 0, failed = 0;
 
+    once = argc > 1 && strcmp(argv[1], "once") == 0;
     signal(SIGSEGV, crashed);
     signal(SIGBUS, crashed);
-    for (i = 1; i < argc; i++) {
+    for (i = 1 + once; i < argc; i++) {
         struct reader *reader = open_calls(argv[i]);
         struct call call;
         while (next_call(reader, &call)) {
-            const struct function *function = find_function(reader, &call);
-            check_kinds(reader, &call, function);
-            if (try_call(&call, function))
+            if (try_call(&call, find_function(reader, &call)))
                 passed++;
             else
                 failed++;
@@ -159,7 +104,7 @@ int main(int argc, char **argv)
         close_calls(reader);
     }
     if (passed + failed == 0) {
-        fprintf(stderr, "usage: calls FILE.., with calls in the files\n");
+        fprintf(stderr, "usage: calls [once] FILE.., with calls in the files\n");
         return 2;
     }
     printf("%lu passed, %lu failed\n", passed, failed);

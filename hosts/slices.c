@@ -7,10 +7,11 @@
 
 enum { GUARD = 64, MOST_OFF = 15, PERIOD = 256 };
 
-/* The pattern's byte at place i of a block; the pattern repeats after a period. */
-static unsigned char pattern(size_t i, unsigned char mask)
+/* The pattern's byte at place i of the block. It follows from how far that is from the slice's start, so that a slice has the
+   same pattern, or the same turned, wherever it lies; and it repeats after a period. */
+static unsigned char pattern(const struct slice *slice, size_t i)
 {
-    return (unsigned char)((i * 29 + 17) ^ mask);
+    return (unsigned char)(((i - slice->place) * 29 + 17) ^ slice->mask);
 }
 
 /* Paints a part of the block with the pattern: the first period by its bytes, the others as copies. */
@@ -19,7 +20,7 @@ static void paint(const struct slice *slice, size_t from, size_t to)
     size_t i, length;
 
     for (i = from; i < to && i - from < PERIOD; i++)
-        slice->block[i] = pattern(i, slice->mask);
+        slice->block[i] = pattern(slice, i);
     for (; i < to; i += length) {
         length = to - i < PERIOD ? to - i : PERIOD;
         memcpy(slice->block + i, slice->block + i - PERIOD, length);
@@ -32,7 +33,7 @@ static int is_painted(const struct slice *slice, size_t from, size_t to)
     size_t i;
 
     for (i = from; i < to && i - from < PERIOD; i++)
-        if (slice->block[i] != pattern(i, slice->mask))
+        if (slice->block[i] != pattern(slice, i))
             return 0;
     return memcmp(slice->block + from, slice->block + i, to - i) == 0;
 }
@@ -72,7 +73,7 @@ static unsigned char wanted(const struct slice *slice, size_t i)
 {
     if (i >= slice->place && i - slice->place < slice->expected->length)
         return slice->expected->start[i - slice->place];
-    return pattern(i, slice->mask);
+    return pattern(slice, i);
 }
 
 static int is_as_wanted(const struct slice *slice)

@@ -1,24 +1,37 @@
-/* Measures the stack that each call uses: the call runs on a stack of its own that was filled with a pattern, and what is
-   no longer the pattern was used. */
+/* Measures the stack that calls use: stack FILE.., each a file of calls of one function. Every call of it that is not refused
+   runs on a stack of its own that was filled with a pattern, and what is no longer the pattern was used. Prints the most for
+   each function, below the host's frame: return addresses and arguments that are passed on the stack are included. */
 #define _XOPEN_SOURCE 700
 #include <stdio.h>
 #include <stdlib.h>
 #include <string.h>
 #include <ucontext.h>
 
+#include "format.h"
+#include "library.h"
 #include "picnic.h"
 
-enum { PATTERN = 0xa5, LONGEST = 1048576 };
+enum { PATTERN = 0xa5 };
 
-static unsigned char stack[1 << 20];
+static unsigned char stack[1 << 18];
 static ucontext_t outside, inside;
 
-/* What runs on the painted stack. */
-static void (*painted)(void);
+/* The call that runs on the painted stack, what it answers, and how far below the frame that makes it the stack was used. */
+static uint64_t (*painted)(const struct given *);
+static struct given given[MOST_ARGUMENTS];
+static volatile uint64_t answer;
+static size_t depth;
 
+/* Runs the call, and looks for the lowest byte that is not the pattern before anything else uses the stack. */
 static void enter(void)
 {
-    painted();
+    volatile unsigned char frame = 0;
+    size_t unused = 0;
+
+    answer = painted(given);
+    while (stack[unused] == PATTERN)
+        unused++;
+    depth = unused == 0 ? 0 : (size_t)((uintptr_t)&frame - (uintptr_t)&stack[unused]);
 }
 
 static void fail(const char *what)
@@ -27,23 +40,9 @@ static void fail(const char *what)
     exit(1);
 }
 
-/* Bytes from the top of the stack to the lowest one that is not the pattern. */
-static size_t used(void)
-{
-    size_t unused = 0;
-
-    while (unused < sizeof stack && stack[unused] == PATTERN)
-        unused++;
-    if (unused == 0)
-        fail("the stack is too small");
-    return sizeof stack - unused;
-}
-
-/* The stack that a function uses. */
-static size_t used_by(void (*run)(void))
+static void run_painted(void)
 {
     memset(stack, PATTERN, sizeof stack);
-    painted = run;
     if (getcontext(&inside) != 0)
         fail("no context");
     inside.uc_stack.ss_sp = stack;
@@ -52,60 +51,48 @@ static size_t used_by(void (*run)(void))
     makecontext(&inside, enter, 0);
     if (swapcontext(&outside, &inside) != 0)
         fail("no other stack");
-    return used();
+    if (depth == 0)
+        fail("the stack is too small");
 }
 
-/* The arguments of picnic_hash, and the function that takes them: the library's or, to know what is used without it, one
-   that does nothing. */
-static uint8_t input[LONGEST], output[LONGEST];
-static uint64_t set;
-static size_t input_length, output_length;
-static uint64_t (*hash)(uint64_t, const uint8_t *, size_t, uint8_t *, size_t);
-static volatile uint64_t answer;
-
-static uint64_t nothing(uint64_t s, const uint8_t *in, size_t in_length, uint8_t *out, size_t out_length)
+/* The stack that a call uses. */
+static size_t used_by(const struct call *call, const struct function *function)
 {
-    return s + in_length + out_length + (in == out);
+    give(given, call, 0, AT_ITS_PLACE);
+    painted = function->make;
+    run_painted();
+    take_back(given, call);
+    if (answer != call->answer)
+        fail("a call answers something else");
+    return depth;
 }
 
-static void run_hash(void)
+static void measure(const char *path)
 {
-    answer = hash(set, input, input_length, output, output_length);
-}
+    struct reader *reader = open_calls(path);
+    const struct function *function = NULL;
+    struct call call;
+    size_t most = 0;
 
-static size_t stack_of_hash(void)
-{
-    size_t without, with;
-
-    hash = nothing;
-    without = used_by(run_hash);
-    hash = picnic_hash;
-    with = used_by(run_hash);
-    if (answer != output_length)
-        fail("picnic_hash refuses");
-    return with - without;
-}
-
-/* The most over the sets and over short and long slices. */
-static size_t most_of_hash(void)
-{
-    static const size_t lengths[] = { 0, 100, LONGEST };
-    size_t i, most = 0;
-
-    for (i = 0; i < 3 * 3 * 3; i++) {
-        size_t bytes;
-        set = i / 9 + 1;
-        input_length = lengths[i / 3 % 3];
-        output_length = lengths[i % 3];
-        bytes = stack_of_hash();
-        most = bytes > most ? bytes : most;
+    while (next_call(reader, &call)) {
+        function = find_function(reader, &call);
+        if (PICNIC_REFUSAL(call.answer) == PICNIC_FINE) {
+            size_t bytes = used_by(&call, function);
+            most = bytes > most ? bytes : most;
+        }
+        free_call(&call);
     }
-    return most;
+    if (function == NULL)
+        fail("a file without a call");
+    printf("%-20s %10lu\n", function->name, (unsigned long)most);
+    close_calls(reader);
 }
 
-int main(void)
+int main(int argc, char **argv)
 {
+    int i;
     printf("%-20s %10s\n", "stack", "bytes");
-    printf("%-20s %10lu\n", "picnic_hash", (unsigned long)most_of_hash());
+    for (i = 1; i < argc; i++)
+        measure(argv[i]);
     return 0;
 }

@@ -97,13 +97,15 @@ extern "C" {
 /*
  * Calls.
  *
- * | call              | refusals | writes                                           | answers             |
- * |-------------------|----------|--------------------------------------------------|---------------------|
- * | picnic_hash       | 1 6      | the whole output: SHAKE of input, with no prefix | the output's length |
- * | picnic_encrypt    | 1 2 3 6  | LowMC of the block under the secret key          | PICNIC_.._BLOCK     |
- * | picnic_public_key | 1 2 3 6  | the public key: that, then the block             | PICNIC_.._PUBLIC    |
- * | picnic_seeds      | 1 3 4 6  | the seeds and the salt that a signer derives     | PICNIC_.._SEEDS     |
- * | picnic_challenge  | 1 5 6 8  | the values of a challenge, one a byte            | PICNIC_.._VALUES    |
+ * | call              | refusals      | writes                                           | answers                |
+ * |-------------------|---------------|--------------------------------------------------|------------------------|
+ * | picnic_hash       | 1 6           | the whole output: SHAKE of input, with no prefix | the output's length    |
+ * | picnic_encrypt    | 1 2 3 6       | LowMC of the block under the secret key          | PICNIC_.._BLOCK        |
+ * | picnic_public_key | 1 2 3 6       | the public key: that, then the block             | PICNIC_.._PUBLIC       |
+ * | picnic_seeds      | 1 3 4 6       | the seeds and the salt that a signer derives     | PICNIC_.._SEEDS        |
+ * | picnic_challenge  | 1 5 6 8       | the values of a challenge, one a byte            | PICNIC_.._VALUES       |
+ * | picnic_read       | 1 6 9 10 9 11 | the unpacked form of a signature                 | PICNIC_.._UNPACKED     |
+ * | picnic_write      | 1 6 9 10 11   | the signature of an unpacked form                | the signature's length |
  */
 
 /* SHAKE128 for set 1, SHAKE256 for sets 2 and 3. Input of any length; refusal 6 for an output longer than
@@ -133,6 +135,18 @@ uint64_t picnic_seeds(uint64_t set, const uint8_t *secret, size_t secret_length,
    PICNIC_LIMIT_MOST. Input of any length. Refusal 8 where the allowed blocks give fewer. */
 uint64_t picnic_challenge(uint64_t set, const uint8_t *input, size_t input_length, uint64_t limit, uint8_t *output,
                           size_t output_length);
+
+/* The unpacked form of a signature: PICNIC_.._VALUES values, one a byte; the salt; then for each round, in slots of one
+   length, commitment, transcript, two seeds, and an input share, which is zeros beside value 0. The output holds at
+   least PICNIC_.._UNPACKED bytes. Refused in this order: 9 for a signature shorter than its header and salt, 10, 9 for
+   any other length than the header asks for, 11. */
+uint64_t picnic_read(uint64_t set, const uint8_t *signature, size_t signature_length, uint8_t *output,
+                     size_t output_length);
+
+/* The signature of an unpacked form. Reading it gives the same form back. The output holds at least
+   PICNIC_.._SIGNATURE bytes, however short the signature is. */
+uint64_t picnic_write(uint64_t set, const uint8_t *unpacked, size_t unpacked_length, uint8_t *output,
+                      size_t output_length);
 
 #ifdef __cplusplus
 }

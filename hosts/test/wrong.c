@@ -15,7 +15,8 @@ static int is_empty_at(const uint8_t *start, size_t length, int pointer)
    set it does one thing wrong; set 0 is right. */
 uint64_t picnic_hash(uint64_t set, const uint8_t *input, size_t input_length, uint8_t *output, size_t output_length)
 {
-    uint8_t *lent = (uint8_t *)input, first = output_length == 0 ? 0 : output[0];
+    static uint8_t kept;
+    uint8_t *lent = (uint8_t *)input, first = output_length == 0 ? 0 : output[0], last = kept;
     size_t n = input_length < output_length ? input_length : output_length;
 
     if (n != 0)
@@ -43,6 +44,7 @@ uint64_t picnic_hash(uint64_t set, const uint8_t *input, size_t input_length, ui
     case 20: return is_empty_at(input, input_length, 0) ? n + 1 : n;
     case 21: return is_empty_at(input, input_length, 1) ? n + 1 : n;
     case 22: return is_empty_at(input, input_length, 2) ? n + 1 : n;
+    case 23: kept = output[n]; return (kept ^ last) == 0xff ? n + 1 : n;
     }
     return n;
 }

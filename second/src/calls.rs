@@ -3,10 +3,18 @@
 //! module writes it, and each module below it chooses the cases of one call.
 
 pub mod challenge;
+pub mod damaged;
 pub mod faults;
 pub mod hash;
 pub mod lowmc;
+pub mod published;
 pub mod seeds;
+pub mod sign;
+pub mod signature;
+pub mod statement;
+pub mod strings;
+pub mod tables;
+pub mod verify;
 
 use std::collections::BTreeSet;
 use std::fmt;
@@ -16,7 +24,7 @@ use crate::hex::to_hex;
 use crate::noise::Noise;
 
 /// The file of calls of a function, which is named without the library's
-/// prefix.
+/// prefix; or the file of many damaged signatures.
 pub fn of(function: &str) -> Option<Sheet> {
     match function {
         "hash" => Some(hash::sheet()),
@@ -24,6 +32,11 @@ pub fn of(function: &str) -> Option<Sheet> {
         "public_key" => Some(lowmc::sheet(lowmc::Function::PublicKey)),
         "seeds" => Some(seeds::sheet()),
         "challenge" => Some(challenge::sheet()),
+        "read" => Some(signature::sheet(signature::Function::Read)),
+        "write" => Some(signature::sheet(signature::Function::Write)),
+        "sign" => Some(sign::sheet()),
+        "verify" => Some(verify::sheet()),
+        "damaged" => Some(damaged::sheet(damaged::DAMAGED)),
         _ => None,
     }
 }
@@ -31,7 +44,8 @@ pub fn of(function: &str) -> Option<Sheet> {
 /// Set numbers that name no set. Taken for fewer bits, some would.
 const NO_SETS: [u64; 6] = [0, 4, 257, (1 << 32) + 1, (1 << 63) + 2, u64::MAX];
 
-/// The longest random input that is written in full and not as noise.
+/// The longest random input that is written in full and not as noise, and the
+/// longest run of bytes that are not worth a piece of their own.
 const SHORT: usize = 32;
 
 /// A random input of this length.
@@ -87,6 +101,15 @@ pub enum Argument {
     },
 }
 
+/// A byte string that a call is given, beside the defined string that it was
+/// made from: the file says only where the two differ.
+#[derive(Clone, Debug, PartialEq, Eq)]
+pub struct Lent {
+    name: String,
+    /// The bytes.
+    pub bytes: Vec<u8>,
+}
+
 /// A call and its answer.
 #[derive(Clone, Debug, PartialEq, Eq)]
 pub struct Call {
@@ -109,17 +132,26 @@ impl Call {
     pub fn with_output(
         label: String,
         function: &'static str,
-        mut arguments: Vec<Argument>,
+        arguments: Vec<Argument>,
         length: usize,
         outcome: Outcome,
     ) -> Call {
-        let (start, answer) = match outcome {
-            Ok(bytes) => {
-                let answer = done(bytes.len());
-                (vec![Piece::Hex(bytes)], answer)
-            }
-            Err(refusal) => (vec![], refusal.answer()),
-        };
+        let hex = |bytes: Vec<u8>| vec![Piece::Hex(bytes)];
+        Call::with_pieces(label, function, arguments, length, outcome, hex)
+    }
+
+    /// A call whose last argument is its one output, with the pieces that the
+    /// file has for what is written.
+    pub fn with_pieces(
+        label: String,
+        function: &'static str,
+        mut arguments: Vec<Argument>,
+        length: usize,
+        outcome: Outcome,
+        pieces: impl FnOnce(Vec<u8>) -> Vec<Piece>,
+    ) -> Call {
+        let answer = answer(&outcome);
+        let start = outcome.map_or_else(|_| vec![], pieces);
         arguments.push(Argument::Written { length, start });
         Call {
             label,
@@ -127,6 +159,14 @@ impl Call {
             arguments,
             answer,
         }
+    }
+}
+
+/// The answer of a call with one output.
+pub fn answer(outcome: &Outcome) -> u64 {
+    match outcome {
+        Ok(bytes) => done(bytes.len()),
+        Err(refusal) => refusal.answer(),
     }
 }
 
@@ -165,6 +205,47 @@ impl Sheet {
         found.map(|defined| defined.bytes.as_slice())
     }
 
+    /// A copy of a defined string, to be changed.
+    pub fn lend(&self, name: &str) -> Lent {
+        let bytes = self.named(name).expect("the name is defined");
+        Lent {
+            name: name.into(),
+            bytes: bytes.into(),
+        }
+    }
+
+    /// What a lent string is made of: the defined string, or parts of it where
+    /// the two agree for long enough, and hex where they do not.
+    pub fn pieces(&self, lent: &Lent) -> Vec<Piece> {
+        let whole = self.named(&lent.name).expect("the name is defined");
+        let (name, bytes) = (&lent.name, &lent.bytes);
+        if bytes == whole {
+            return vec![Piece::Named(name.clone())];
+        }
+        let (mut pieces, mut other, mut from) = (vec![], vec![], 0);
+        while from < bytes.len() {
+            let pairs = bytes[from..].iter().zip(whole.iter().skip(from));
+            let length = pairs.take_while(|(x, y)| x == y).count();
+            if length < SHORT {
+                let end = bytes.len().min(from + length + 1);
+                other.extend(&bytes[from..end]);
+                from = end;
+            } else {
+                push_hex(&mut pieces, &mut other);
+                let name = name.clone();
+                pieces.push(Piece::Part { name, from, length });
+                from += length;
+            }
+        }
+        push_hex(&mut pieces, &mut other);
+        pieces
+    }
+
+    /// A lent string as an argument that is only read.
+    pub fn input(&self, lent: &Lent) -> Argument {
+        Argument::Input(self.pieces(lent))
+    }
+
     /// Adds a call.
     pub fn add(&mut self, call: Call) {
         assert!(is_word(&call.label), "{:?} is no label", call.label);
@@ -192,6 +273,13 @@ impl Sheet {
             Piece::Named(name) => whole(name).to_vec(),
             Piece::Part { name, from, length } => whole(name)[*from..*from + *length].to_vec(),
         }
+    }
+}
+
+/// Puts bytes behind the pieces, if there are any, and takes them away.
+fn push_hex(pieces: &mut Vec<Piece>, bytes: &mut Vec<u8>) {
+    if !bytes.is_empty() {
+        pieces.push(Piece::Hex(std::mem::take(bytes)));
     }
 }
 
@@ -354,6 +442,36 @@ answer 0x600000000
         }
         let all = pieces.map(|(piece, _, _)| piece);
         assert_eq!(sheet.bytes(&all[3..]), [1, 2, 3, 4, 2, 3]);
+    }
+
+    /// A change to a string, and how it is written then.
+    type Written = (fn(&mut Vec<u8>), &'static str);
+
+    /// Strings that differ from a defined one: in no byte, at the start, inside
+    /// twice, in length.
+    #[test]
+    fn lent_strings_are_written_as_what_they_differ_in() {
+        let mut sheet = Sheet::default();
+        sheet.define("s", vec![Piece::Zeros(200)]);
+        let changes: [Written; 7] = [
+            (|_| (), " named:s"),
+            (|x| x[0] = 1, " hex:01 part:s:1:199"),
+            (
+                |x| (x[100], x[103]) = (1, 2),
+                " part:s:0:100 hex:01000002 part:s:104:96",
+            ),
+            (|x| x.truncate(150), " part:s:0:150"),
+            (|x| x.truncate(3), " hex:000000"),
+            (|x| x.extend([0, 7]), " part:s:0:200 hex:0007"),
+            (|x| x.clear(), ""),
+        ];
+        for (change, expected) in changes {
+            let mut lent = sheet.lend("s");
+            change(&mut lent.bytes);
+            let pieces = sheet.pieces(&lent);
+            assert_eq!(joined(&pieces), expected);
+            assert_eq!(sheet.bytes(&pieces), lent.bytes, "{expected}");
+        }
     }
 
     #[test]

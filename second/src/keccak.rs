@@ -126,6 +126,8 @@ fn iota(state: &State, constant: u64) -> State {
 
 /// Keccak-f[1600]: 24 rounds of the five steps.
 pub fn permute(state: &State) -> State {
+    #[cfg(test)]
+    crate::work::counted::add(1, 0);
     let mut state = *state;
     for constant in ROUND_CONSTANTS {
         state = iota(&chi(&pi(&rho(&theta(&state)))), constant);

@@ -6,7 +6,7 @@
 //! handled one by one, as `bool`; the module `words` has the same cipher on
 //! words, for speed.
 
-mod words;
+pub(crate) mod words;
 
 use std::collections::BTreeMap;
 use std::sync::{Arc, Mutex};
@@ -47,6 +47,16 @@ impl Lowmc {
     /// Bytes of a block, a key or a row of a matrix.
     pub fn width(&self) -> usize {
         width(self.n)
+    }
+
+    /// S-boxes in a round, s.
+    pub fn sboxes(&self) -> usize {
+        self.s
+    }
+
+    /// Rounds, r.
+    pub fn rounds(&self) -> usize {
+        self.r
     }
 
     /// Bytes of a matrix.
@@ -105,7 +115,7 @@ impl Lowmc {
 
     /// The product of matrix number `index` of a table and a vector: output
     /// bit i is the parity of row i AND the vector.
-    fn multiply(&self, table: &[u8], index: usize, vector: &[bool]) -> Bits {
+    pub(crate) fn multiply(&self, table: &[u8], index: usize, vector: &[bool]) -> Bits {
         let start = index * self.matrix_bytes();
         let matrix = &table[start..start + self.matrix_bytes()];
         let rows = matrix.chunks(self.width());
@@ -114,7 +124,7 @@ impl Lowmc {
     }
 
     /// Round constant number `index`.
-    fn constant(&self, constants: &[u8], index: usize) -> Bits {
+    pub(crate) fn constant(&self, constants: &[u8], index: usize) -> Bits {
         let start = index * self.width();
         from_bytes(&constants[start..start + self.width()], self.n)
     }
@@ -134,7 +144,7 @@ pub fn sbox(a: bool, b: bool, c: bool) -> (bool, bool, bool) {
 }
 
 /// The XOR of two bit strings of one length.
-fn xor(x: &[bool], y: &[bool]) -> Bits {
+pub(crate) fn xor(x: &[bool], y: &[bool]) -> Bits {
     assert_eq!(x.len(), y.len());
     x.iter().zip(y).map(|(x, y)| x ^ y).collect()
 }

@@ -6,9 +6,10 @@ use std::process::ExitCode;
 use std::str::FromStr;
 
 use second::answers::REFUSALS;
-use second::bench;
+use second::bench::{self, Turns};
 use second::calls;
 use second::hex::{from_hex, to_hex};
+use second::known_answers;
 use second::lowmc::Lowmc;
 use second::sets::{
     Set, HIGHEST_BLOCK_LIMIT, LONGEST_HASH_OUTPUT, LONGEST_MESSAGE, SALT_BYTES, SETS,
@@ -20,9 +21,16 @@ second help
     print this text
 second constants
     print the numbers that a host's header has, a name and a number a line
-second calls {hash|encrypt|public_key|seeds|challenge}
+second calls {hash|encrypt|public_key|seeds|challenge|read|write|sign|verify}
     print calls of this function of the library with their answers, for a C
     host to make
+second calls damaged
+    print calls of verify with many damaged signatures
+second answers SET COUNT
+    sign COUNT messages under set 1, 2 or 3 and print keys, messages and
+    signatures in the form in which Picnic's known answers are published
+second published
+    read known answers of that form and print them as calls
 second shake {128|256} OUTLEN
     hash standard input and print OUTLEN bytes of output in hex
 second tables N S R
@@ -35,9 +43,15 @@ second lend SET
 second encrypt SET KEYHEX BLOCKHEX
     encrypt a block with the LowMC of set 1, 2 or 3 over its drawn tables and
     print the ciphertext in hex
-second bench encrypt SET TURNS TIMES
-    encrypt TIMES times in each of TURNS turns, each time what the last time
-    gave, and print the nanoseconds of one encryption and the last ciphertext
+second bench {hash|encrypt|product|sign|verify} SET TURNS TIMES
+    do one thing TIMES times in each of TURNS turns, and print the nanoseconds
+    of one time in the quickest turn, and what came of the last: hash a long
+    input, by permutations; encrypt what the last time gave; multiply all
+    matrices, by products; sign a message; verify a signature
+second work SET
+    print the permutations and the matrix products that it takes to encrypt a
+    block, to sign that message, to sign it in two passes, and to verify the
+    signature, a line each
 ";
 
 /// What went wrong, in words for the user.
@@ -64,11 +78,14 @@ fn run(arguments: &[String], input: &mut dyn Read, output: &mut dyn Write) -> Re
         ["help"] => print(output, HELP),
         ["constants"] => run_constants(output),
         ["calls", function] => run_calls(function, output),
+        ["answers", set, count] => run_answers(set, count, output),
+        ["published"] => run_published(input, output),
         ["shake", which, length] => run_shake(which, length, input, output),
         ["tables", n, s, r] => run_tables(n, s, r, output),
         ["lend", set] => run_lend(set, output),
         ["encrypt", set, key, block] => run_encrypt(set, key, block, output),
-        ["bench", "encrypt", set, turns, times] => run_bench(set, turns, times, output),
+        ["work", set] => run_work(set, output),
+        ["bench", what, set, turns, times] => run_bench(what, set, turns, times, output),
         _ => Err("no such subcommand with so many arguments; try: second help".into()),
     }
 }
@@ -115,6 +132,17 @@ fn run_calls(function: &str, output: &mut dyn Write) -> Result<(), Refusal> {
     print(output, &sheet.to_string())
 }
 
+fn run_answers(set: &str, count: &str, output: &mut dyn Write) -> Result<(), Refusal> {
+    let answers = known_answers::own(set_of(set)?, number("COUNT", count)?);
+    print(output, &known_answers::write(&answers))
+}
+
+fn run_published(input: &mut dyn Read, output: &mut dyn Write) -> Result<(), Refusal> {
+    let text = String::from_utf8(all(input)?).map_err(|_| "standard input is no text")?;
+    let sheet = calls::published::sheet(&known_answers::read(&text)?);
+    print(output, &sheet.to_string())
+}
+
 fn run_shake(
     which: &str,
     length: &str,
@@ -127,10 +155,7 @@ fn run_shake(
         _ => return Err(format!("{which}: neither 128 nor 256")),
     };
     let mut left: u64 = number("OUTLEN", length)?;
-    let mut message = Vec::new();
-    input
-        .read_to_end(&mut message)
-        .map_err(|error| format!("standard input: {error}"))?;
+    let message = all(input)?;
     let mut sponge = Sponge::new(hash);
     sponge.absorb(&message);
     let mut stream = sponge.close();
@@ -173,14 +198,37 @@ fn run_encrypt(set: &str, key: &str, block: &str, output: &mut dyn Write) -> Res
     print(output, &format!("{}\n", to_hex(&ciphertext)))
 }
 
-fn run_bench(set: &str, turns: &str, times: &str, output: &mut dyn Write) -> Result<(), Refusal> {
+fn run_bench(
+    what: &str,
+    set: &str,
+    turns: &str,
+    times: &str,
+    output: &mut dyn Write,
+) -> Result<(), Refusal> {
+    let set = set_of(set)?;
     let (turns, times) = (number("TURNS", turns)?, number("TIMES", times)?);
     if turns == 0 || times == 0 {
         return Err("nothing is measured in no time".into());
     }
-    let measured = bench::encryptions(set_of(set)?, turns, times);
+    let turns = Turns { turns, times };
+    let measured = match what {
+        "encrypt" => bench::encryptions(set, turns),
+        "product" => bench::products(set, turns),
+        "hash" => bench::permutations(set, turns),
+        "sign" => bench::signatures(set, turns),
+        "verify" => bench::verdicts(set, turns),
+        _ => return Err(format!("{what}: not measured")),
+    };
     let last = to_hex(&measured.last);
     print(output, &format!("{:.1} {last}\n", measured.nanoseconds))
+}
+
+fn run_work(set: &str, output: &mut dyn Write) -> Result<(), Refusal> {
+    for (name, work) in bench::work(set_of(set)?) {
+        let (permutations, products) = (work.permutations, work.products);
+        print(output, &format!("{name} {permutations} {products}\n"))?;
+    }
+    Ok(())
 }
 
 /// An argument that is the number of a set.
@@ -199,6 +247,15 @@ fn bytes(name: &str, text: &str, length: usize) -> Result<Vec<u8>, Refusal> {
     from_hex(text)
         .filter(|bytes| bytes.len() == length)
         .ok_or_else(|| format!("{name}: {length} bytes in hex are wanted"))
+}
+
+/// All of standard input.
+fn all(input: &mut dyn Read) -> Result<Vec<u8>, Refusal> {
+    let mut bytes = Vec::new();
+    match input.read_to_end(&mut bytes) {
+        Ok(_) => Ok(bytes),
+        Err(error) => Err(format!("standard input: {error}")),
+    }
 }
 
 fn print(output: &mut dyn Write, text: &str) -> Result<(), Refusal> {

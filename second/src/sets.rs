@@ -156,12 +156,21 @@ impl Set {
         width(2 * self.t)
     }
 
+    /// Bytes of the input share of party 2 in a round of a signature: none
+    /// where the challenge value is 0.
+    pub const fn share_bytes(&self, value: u8) -> usize {
+        if value == 0 {
+            0
+        } else {
+            self.width()
+        }
+    }
+
     /// Bytes of a round in a signature, by its challenge value: commitment,
-    /// transcript, two seeds, and the input share of party 2 unless the value
-    /// is 0.
+    /// transcript, two seeds and input share.
     pub const fn round_bytes(&self, value: u8) -> usize {
-        let share = if value == 0 { 0 } else { self.width() };
-        self.digest_bytes + self.transcript_bytes() + 2 * self.seed_width() + share
+        let fixed = self.digest_bytes + self.transcript_bytes() + 2 * self.seed_width();
+        fixed + self.share_bytes(value)
     }
 
     /// Bytes of the signature that answers these challenge values.

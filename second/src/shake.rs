@@ -36,6 +36,48 @@ fn byte_at(state: &State, i: usize) -> u8 {
     (state[i / 8] >> (8 * (i % 8))) as u8
 }
 
+/// How many of the next bytes from byte number `i` on come before the next
+/// whole lane.
+fn before_lane(i: usize, length: usize) -> usize {
+    length.min((8 - i % 8) % 8)
+}
+
+/// Adds bytes to the state from byte number `i` on, by whole lanes where they
+/// fill them.
+fn add_bytes(state: &mut State, i: usize, bytes: &[u8]) {
+    let (start, rest) = bytes.split_at(before_lane(i, bytes.len()));
+    let lanes = rest.chunks_exact(8);
+    let end = lanes.remainder();
+    for (place, &byte) in (i..).zip(start) {
+        add_byte(state, place, byte);
+    }
+    for (lane, eight) in state[(i + start.len()) / 8..].iter_mut().zip(lanes) {
+        *lane ^= u64::from_le_bytes(eight.try_into().expect("these are eight"));
+    }
+    for (place, &byte) in (i + bytes.len() - end.len()..).zip(end) {
+        add_byte(state, place, byte);
+    }
+}
+
+/// Fills a slice with the bytes of the state from byte number `i` on, by whole
+/// lanes where it holds them.
+fn give_bytes(state: &State, i: usize, out: &mut [u8]) {
+    let length = out.len();
+    let (start, rest) = out.split_at_mut(before_lane(i, length));
+    let first_lane = (i + start.len()) / 8;
+    for (place, byte) in (i..).zip(start) {
+        *byte = byte_at(state, place);
+    }
+    let mut lanes = rest.chunks_exact_mut(8);
+    for (eight, lane) in (&mut lanes).zip(&state[first_lane..]) {
+        eight.copy_from_slice(&lane.to_le_bytes());
+    }
+    let end = lanes.into_remainder();
+    for (place, byte) in (i + length - end.len()..).zip(end) {
+        *byte = byte_at(state, place);
+    }
+}
+
 /// A sponge that takes in a message.
 #[derive(Clone)]
 pub struct Sponge {
@@ -57,13 +99,16 @@ impl Sponge {
 
     /// Takes in the next piece of the message.
     pub fn absorb(&mut self, piece: &[u8]) {
-        for &byte in piece {
-            add_byte(&mut self.state, self.taken, byte);
-            self.taken += 1;
+        let mut rest = piece;
+        while !rest.is_empty() {
+            let (now, later) = rest.split_at(rest.len().min(self.rate - self.taken));
+            add_bytes(&mut self.state, self.taken, now);
+            self.taken += now.len();
             if self.taken == self.rate {
                 self.state = permute(&self.state);
                 self.taken = 0;
             }
+            rest = later;
         }
     }
 
@@ -93,13 +138,16 @@ pub struct Stream {
 impl Stream {
     /// Fills the slice with the next bytes of output.
     pub fn squeeze(&mut self, out: &mut [u8]) {
-        for byte in out {
+        let mut rest = out;
+        while !rest.is_empty() {
             if self.given == self.rate {
                 self.state = permute(&self.state);
                 self.given = 0;
             }
-            *byte = byte_at(&self.state, self.given);
-            self.given += 1;
+            let (now, later) = rest.split_at_mut(rest.len().min(self.rate - self.given));
+            give_bytes(&self.state, self.given, now);
+            self.given += now.len();
+            rest = later;
         }
     }
 }

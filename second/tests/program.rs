@@ -58,7 +58,17 @@ fn calls_prints_the_sheet_of_a_function() {
 /// Each sheet is of calls of its own function.
 #[test]
 fn calls_go_to_the_function_that_is_asked_for() {
-    for function in ["hash", "encrypt", "public_key", "seeds"] {
+    for function in [
+        "hash",
+        "encrypt",
+        "public_key",
+        "seeds",
+        "challenge",
+        "read",
+        "write",
+        "sign",
+        "verify",
+    ] {
         let output = run(&["calls", function], b"");
         let text = String::from_utf8_lossy(&output.stdout).into_owned();
         let mut calls = text.lines().filter(|line| line.starts_with("call "));
@@ -66,6 +76,23 @@ fn calls_go_to_the_function_that_is_asked_for() {
         assert!(text.contains("\ncall "), "{function}");
         assert!(calls.all(|call| call.ends_with(&end)), "{function}");
     }
+}
+
+/// Known answers go out and come back in as calls.
+#[test]
+fn known_answers_become_calls() {
+    let answers = run(&["answers", "1", "1"], b"");
+    assert!(answers.status.success());
+    let text = String::from_utf8_lossy(&answers.stdout).into_owned();
+    assert!(text.contains("\ncount = 0\n") && text.contains("\npk = 01"));
+    let output = run(&["published"], &answers.stdout);
+    let calls = String::from_utf8_lossy(&output.stdout).into_owned();
+    assert!(calls.contains("\ncall sign-known-set1-0 picnic_sign\n"));
+    let output = run(
+        &["published"],
+        text.replace("mlen = 33", "mlen = 3").as_bytes(),
+    );
+    assert_eq!(output.status.code(), Some(1));
 }
 
 /// All tables in one run of bytes, in the order in which a host lends them.
@@ -129,11 +156,14 @@ fn help_names_every_subcommand() {
         "help",
         "constants",
         "calls",
+        "answers",
+        "published",
         "shake",
         "tables",
         "lend",
         "encrypt",
         "bench",
+        "work",
     ] {
         assert!(text.contains(&format!("second {name}")), "{name}");
     }
@@ -142,7 +172,7 @@ fn help_names_every_subcommand() {
 #[test]
 fn what_is_not_understood_is_refused() {
     let key = "80000000000000000000000000000000";
-    let refused: [&[&str]; 15] = [
+    let refused: [&[&str]; 17] = [
         &[],
         &["sign"],
         &["calls"],
@@ -153,6 +183,8 @@ fn what_is_not_understood_is_refused() {
         &["tables", "128", "43", "4"],
         &["lend", "0"],
         &["bench", "encrypt", "4", "1", "1"],
+        &["bench", "nothing", "1", "1", "1"],
+        &["work", "0"],
         &["bench", "encrypt", "1", "0", "1"],
         &["bench", "encrypt", "1", "1", "0"],
         &["encrypt", "4", key, key],

@@ -6,6 +6,7 @@ ghost use Rattle.hashing.specs.HashCall.{hashed};
 ghost use Rattle.hashing.specs.SeedsCall.{seeded};
 ghost use Rattle.challenge.specs.ChallengeCall.{challenged};
 ghost use Rattle.lowmc.specs.Calls.{encryptOutcome, publicKeyOutcome};
+ghost use Rattle.shape.specs.Reading.{read, write};
 
 // Fills output with the SHAKE of the set, of input.
 #[no_mangle]
@@ -67,4 +68,20 @@ pub extern "C" fn picnic_challenge(set: u64, input: &[u8], limit: u64, output: &
     ensures { λ r. ⌜ Promise (challenged (numbered set) (now (input .entry)) limit (length (now (output .entry)))) (now (output .entry)) r (now (output .exit)) ⌝ }
 {
     challenge::challenge(set, input, limit, output)
+}
+
+// A signature into its unpacked form, at the start of output.
+#[no_mangle]
+pub extern "C" fn picnic_read(set: u64, signature: &[u8], output: &mut [u8]) -> u64
+    ensures { λ r. ⌜ Promise (read (numbered set) (now (signature .entry)) (length (now (output .entry)))) (now (output .entry)) r (now (output .exit)) ⌝ }
+{
+    signature::read(set, signature, output)
+}
+
+// An unpacked form into its signature, at the start of output.
+#[no_mangle]
+pub extern "C" fn picnic_write(set: u64, unpacked: &[u8], output: &mut [u8]) -> u64
+    ensures { λ r. ⌜ Promise (write (numbered set) (now (unpacked .entry)) (length (now (output .entry)))) (now (output .entry)) r (now (output .exit)) ⌝ }
+{
+    signature::write(set, unpacked, output)
 }

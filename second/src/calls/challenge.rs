@@ -4,7 +4,7 @@
 //! writes the T values of the challenge, one a byte. It refuses with 1, 5, 6
 //! or 8.
 
-use super::faults::{choices, no_sets, Fault};
+use super::faults::{choices, no_sets, within, Fault};
 use super::{random_piece, Argument, Call, Outcome, Piece, Sheet};
 use crate::answers::Refusal;
 use crate::challenge::challenge;
@@ -115,7 +115,7 @@ impl Maker {
 
 /// All that can be wrong.
 fn faults() -> Vec<Fault<Case>> {
-    let mut faults = no_sets(|case: &mut Case| &mut case.set);
+    let mut faults = within(no_sets(), |case: &mut Case| &mut case.set);
     faults.extend([
         Fault::new("limit-none", Refusal::Limit, |case: &mut Case| {
             case.limit = 0

@@ -1,7 +1,8 @@
 //! What can be wrong with the arguments of a call, alone and several at once.
 //!
-//! A call answers the first refusal that holds, in rising number. So a case
-//! with several faults must be refused for the one with the lowest number.
+//! A call answers the first refusal that holds, in rising number but where it
+//! says otherwise. So a case with several faults must be refused for the one
+//! that is checked first.
 
 use std::collections::BTreeSet;
 
@@ -14,6 +15,8 @@ pub struct Fault<Case> {
     pub name: String,
     /// Why the call refuses a case that has this fault alone.
     pub refusal: Refusal,
+    /// Where its check stands: those with lower numbers come first.
+    order: u64,
     spoil: Box<dyn Fn(&mut Case)>,
 }
 
@@ -23,31 +26,46 @@ impl<Case> Fault<Case> {
         Fault {
             name: name.into(),
             refusal,
+            order: 2 * refusal.number(),
             spoil: Box::new(spoil),
         }
     }
+
+    /// The fault, where its check comes right after that of another refusal
+    /// and not in the order of the numbers.
+    pub fn after(self, other: Refusal) -> Self {
+        let order = 2 * other.number() + 1;
+        Fault { order, ..self }
+    }
 }
 
-/// Set numbers that name no set, put in the place that `set` shows.
-pub fn no_sets<Case: 'static>(set: fn(&mut Case) -> &mut u64) -> Vec<Fault<Case>> {
+/// Faults of a part of a case as faults of the case.
+pub fn within<Part: 'static, Case>(
+    faults: Vec<Fault<Part>>,
+    part: impl Fn(&mut Case) -> &mut Part + Copy + 'static,
+) -> Vec<Fault<Case>> {
+    let outside = |fault: Fault<Part>| Fault {
+        name: fault.name,
+        refusal: fault.refusal,
+        order: fault.order,
+        spoil: Box::new(move |case: &mut Case| (fault.spoil)(part(case))),
+    };
+    faults.into_iter().map(outside).collect()
+}
+
+/// Set numbers that name no set.
+pub fn no_sets() -> Vec<Fault<u64>> {
     let fault = |number| {
         let name = format!("no-set-{number}");
-        Fault::new(&name, Refusal::NoSet, move |case| *set(case) = number)
+        Fault::new(&name, Refusal::NoSet, move |set| *set = number)
     };
     NO_SETS.map(fault).into()
 }
 
-/// A byte string of a fixed length, which `bytes` shows, one byte shorter, one
-/// longer, and empty.
-pub fn other_lengths<Case: 'static>(
-    name: &str,
-    refusal: Refusal,
-    bytes: fn(&mut Case) -> &mut Vec<u8>,
-) -> Vec<Fault<Case>> {
-    let fault = |how: &str, change: fn(&mut Vec<u8>)| {
-        let name = format!("{name}-{how}");
-        Fault::new(&name, refusal, move |case| change(bytes(case)))
-    };
+/// A byte string of a fixed length one byte shorter, one longer, and empty.
+pub fn other_lengths(name: &str, refusal: Refusal) -> Vec<Fault<Vec<u8>>> {
+    let fault =
+        |how: &str, change: fn(&mut Vec<u8>)| Fault::new(&format!("{name}-{how}"), refusal, change);
     vec![
         fault("short", |bytes| bytes.truncate(bytes.len() - 1)),
         fault("long", |bytes| bytes.push(0)),
@@ -55,7 +73,7 @@ pub fn other_lengths<Case: 'static>(
     ]
 }
 
-/// Faults that a case has at once, with no two of one number.
+/// Faults that a case has at once, with no two of one check.
 pub struct Choice<'a, Case>(Vec<&'a Fault<Case>>);
 
 impl<Case> Choice<'_, Case> {
@@ -65,9 +83,10 @@ impl<Case> Choice<'_, Case> {
         names.join("+")
     }
 
-    /// Puts the faults into a case.
+    /// Puts the faults into a case. That of the last check goes first, since
+    /// one of an earlier check may take away what it needs.
     pub fn spoil(&self, case: &mut Case) {
-        self.0.iter().for_each(|fault| (fault.spoil)(case));
+        self.0.iter().rev().for_each(|fault| (fault.spoil)(case));
     }
 
     /// How many faults they are.
@@ -75,23 +94,35 @@ impl<Case> Choice<'_, Case> {
         self.0.len()
     }
 
-    /// The refusal of the lowest number.
+    /// The refusal of the first check.
     pub fn refusal(&self) -> Refusal {
-        let refusals = self.0.iter().map(|fault| fault.refusal);
-        refusals
-            .min_by_key(|refusal| refusal.number())
-            .expect("a choice has a fault")
+        let first = self.0.iter().min_by_key(|fault| fault.order);
+        first.expect("a choice has a fault").refusal
     }
 }
 
-/// Each fault alone, and for each set of two numbers or more, one fault of
-/// each of them. Which one that is goes round from choice to choice, starting
-/// at `first`, so that all have their turn.
+/// Up to so many checks, every set of them is tried at once.
+const FEW: usize = 6;
+
+/// Which checks are to fail at once, each set as bits: every set of two or
+/// more, or if the checks are many, every two and all from each on.
+fn mixes(checks: usize) -> Vec<u32> {
+    let all = (1 << checks) - 1;
+    let wanted = |subset: u32| match subset.count_ones() {
+        0 | 1 => false,
+        2 => true,
+        _ => checks <= FEW || subset | (subset - 1) == all,
+    };
+    (0..=all).filter(|&subset| wanted(subset)).collect()
+}
+
+/// Each fault alone, and for each mix of checks, one fault of each of them.
+/// Which one that is goes round from choice to choice, starting at `first`, so
+/// that all have their turn.
 pub fn choices<Case>(faults: &[Fault<Case>], first: usize) -> Vec<Choice<'_, Case>> {
     let mut choices: Vec<_> = faults.iter().map(|fault| Choice(vec![fault])).collect();
-    let groups = by_number(faults);
-    let mixed = (0u32..1 << groups.len()).filter(|subset| subset.count_ones() >= 2);
-    for (turn, subset) in (first..).zip(mixed) {
+    let groups = by_check(faults);
+    for (turn, subset) in (first..).zip(mixes(groups.len())) {
         let chosen = groups.iter().enumerate();
         let chosen = chosen.filter(|(i, _)| subset >> i & 1 == 1);
         choices.push(Choice(
@@ -101,12 +132,11 @@ pub fn choices<Case>(faults: &[Fault<Case>], first: usize) -> Vec<Choice<'_, Cas
     choices
 }
 
-/// The faults of each number.
-fn by_number<Case>(faults: &[Fault<Case>]) -> Vec<Vec<&Fault<Case>>> {
-    let number = |fault: &&Fault<Case>| fault.refusal.number();
-    let numbers: BTreeSet<u64> = faults.iter().map(|fault| number(&fault)).collect();
-    let group = |wanted| faults.iter().filter(|f| number(f) == wanted).collect();
-    numbers.into_iter().map(group).collect()
+/// The faults of each check, in the order of the checks.
+fn by_check<Case>(faults: &[Fault<Case>]) -> Vec<Vec<&Fault<Case>>> {
+    let orders: BTreeSet<u64> = faults.iter().map(|fault| fault.order).collect();
+    let group = |order| faults.iter().filter(|f| f.order == order).collect();
+    orders.into_iter().map(group).collect()
 }
 
 #[cfg(test)]
@@ -139,7 +169,7 @@ mod tests {
     }
 
     #[test]
-    fn every_fault_spoils_and_the_lowest_number_refuses() {
+    fn every_fault_spoils_and_the_first_check_refuses() {
         let faults = faults();
         let choices = choices(&faults, 0);
         let case = |i: usize| {
@@ -148,11 +178,37 @@ mod tests {
             case
         };
         assert_eq!((case(1), choices[1].refusal()), ("y".into(), Refusal::Room));
-        assert_eq!((case(6), choices[6].refusal()), ("kx".into(), Refusal::Key));
+        assert_eq!((case(6), choices[6].refusal()), ("xk".into(), Refusal::Key));
         assert_eq!(
             (case(7), choices[7].refusal()),
-            ("aky".into(), Refusal::NoSet)
+            ("yka".into(), Refusal::NoSet)
         );
         assert_eq!(choices[7].count(), 3);
+    }
+
+    /// A check that comes later than its number says.
+    #[test]
+    fn checks_may_be_out_of_turn() {
+        let mut faults = faults();
+        faults.push(Fault::new("late", Refusal::Table, |_: &mut String| ()).after(Refusal::Key));
+        let choices = choices(&faults, 0);
+        let refusal = |start: &str| {
+            let mut found = choices.iter().filter(|c| c.label().starts_with(start));
+            found.next().expect("there is such a choice").refusal()
+        };
+        assert_eq!(refusal("late"), Refusal::Table);
+        assert_eq!(refusal("k+late"), Refusal::Key);
+        assert_eq!(refusal("late+"), Refusal::Table, "with x or y");
+    }
+
+    /// Of many checks, each two and all from each on; else all sets.
+    #[test]
+    fn checks_that_fail_at_once() {
+        assert_eq!(mixes(3), [0b011, 0b101, 0b110, 0b111]);
+        assert_eq!(mixes(6).len(), 64 - 7);
+        let many = mixes(9);
+        assert_eq!(many.len(), 9 * 8 / 2 + 7);
+        assert!(many.contains(&0b1_0000_0001) && many.contains(&0b1_1111_0000));
+        assert!(!many.contains(&0b0_1111_0000));
     }
 }

@@ -4,11 +4,11 @@
 //! writes the encryption of the block; the other writes the public key, which
 //! is that encryption and then the block. Both refuse with 1, 2, 3 or 6.
 
-use super::faults::{choices, no_sets, other_lengths, Fault};
+use super::faults::{choices, no_sets, other_lengths, within, Fault};
+use super::tables::{self, Contents, LentTables};
 use super::{Argument, Call, Outcome, Piece, Sheet};
 use crate::answers::Refusal;
 use crate::known::{Source, KNOWN};
-use crate::lowmc::Tables;
 use crate::noise::Noise;
 use crate::sets::{Set, SETS};
 
@@ -56,48 +56,19 @@ impl Function {
     }
 }
 
-/// A table as it is lent: the first bytes of a defined string, with zeros
-/// behind it where that is not enough.
-#[derive(Clone)]
-struct Table {
-    name: String,
-    whole: usize,
-    lent: usize,
-}
-
-impl Table {
-    fn pieces(&self) -> Vec<Piece> {
-        let name = self.name.clone();
-        if self.lent < self.whole {
-            let (from, length) = (0, self.lent);
-            return vec![Piece::Part { name, from, length }];
-        }
-        let mut pieces = vec![Piece::Named(name)];
-        if self.lent > self.whole {
-            pieces.push(Piece::Zeros(self.lent - self.whole));
-        }
-        pieces
-    }
-}
-
 /// The arguments of a call.
 struct Case {
     set: u64,
-    keys: Table,
-    layers: Table,
-    constants: Table,
+    tables: LentTables,
     secret: Vec<u8>,
     block: Vec<u8>,
     output: usize,
 }
 
-/// What the call must do, over these tables.
-fn outcome(function: Function, case: &Case, tables: &Tables) -> Outcome {
+/// What the call must do.
+fn outcome(function: Function, case: &Case) -> Outcome {
     let set = Set::by_number(case.set).ok_or(Refusal::NoSet)?;
-    if tables.keys.len() != set.key_table_bytes()
-        || tables.layers.len() != set.layer_table_bytes()
-        || tables.constants.len() != set.constants_bytes()
-    {
+    if !case.tables.fit(set) {
         return Err(Refusal::Table);
     }
     if case.secret.len() != set.width() || case.block.len() != set.width() {
@@ -108,7 +79,7 @@ fn outcome(function: Function, case: &Case, tables: &Tables) -> Outcome {
     }
     let ciphertext = set
         .lowmc()
-        .encrypt_by_words(tables, &case.secret, &case.block);
+        .encrypt_by_words(&case.tables.tables(), &case.secret, &case.block);
     Ok(function.written(ciphertext, &case.block))
 }
 
@@ -123,62 +94,34 @@ impl Maker {
     /// Defines all tables of a set: those drawn by the rule, twice noise, and
     /// zeros.
     fn define_tables(&mut self, set: &Set) {
-        let drawn = set.lowmc().tables();
-        let real = [&drawn.keys, &drawn.layers, &drawn.constants];
-        for (what, bytes) in TABLES.into_iter().zip(real) {
-            let length = bytes.len();
-            let seeds = [self.noise.number(), self.noise.number()];
-            let [noise1, noise2] = seeds.map(|seed| Piece::Noise { seed, length });
-            self.define("real", what, set, Piece::Hex(bytes.clone()));
-            self.define("noise1", what, set, noise1);
-            self.define("noise2", what, set, noise2);
-            self.define("zero", what, set, Piece::Zeros(length));
+        let [noise1, noise2] = [(); 2].map(|()| Contents::noise(&mut self.noise));
+        for (kind, contents) in [
+            ("real", Contents::Real),
+            ("noise1", noise1),
+            ("noise2", noise2),
+            ("zero", Contents::Zero),
+        ] {
+            LentTables::define(&mut self.sheet, kind, set, contents);
         }
-    }
-
-    fn define(&mut self, kind: &str, what: &str, set: &Set, piece: Piece) {
-        self.sheet.define(&table_name(kind, what, set), vec![piece]);
     }
 
     /// A case over the tables of a kind, with an output that is longer than
     /// needed by `more`.
     fn case(&self, kind: &str, set: &Set, secret: Vec<u8>, block: Vec<u8>, more: usize) -> Case {
-        let table = |what: &str, length: usize| Table {
-            name: table_name(kind, what, set),
-            whole: length,
-            lent: length,
-        };
         Case {
             set: set.number,
-            keys: table(TABLES[0], set.key_table_bytes()),
-            layers: table(TABLES[1], set.layer_table_bytes()),
-            constants: table(TABLES[2], set.constants_bytes()),
+            tables: LentTables::lend(&self.sheet, kind, set),
             secret,
             block,
             output: self.function.needed(set) + more,
         }
     }
 
-    /// What the call of a case must do.
-    fn outcome(&self, case: &Case) -> Outcome {
-        let bytes = |table: &Table| self.sheet.bytes(&table.pieces());
-        let tables = Tables {
-            keys: bytes(&case.keys),
-            layers: bytes(&case.layers),
-            constants: bytes(&case.constants),
-        };
-        outcome(self.function, case, &tables)
-    }
-
     fn add(&mut self, label: String, case: Case, outcome: Outcome) {
-        let arguments = vec![
-            Argument::Number(case.set),
-            Argument::Input(case.keys.pieces()),
-            Argument::Input(case.layers.pieces()),
-            Argument::Input(case.constants.pieces()),
-            Argument::Input(vec![Piece::Hex(case.secret)]),
-            Argument::Input(vec![Piece::Hex(case.block)]),
-        ];
+        let mut arguments = vec![Argument::Number(case.set)];
+        arguments.extend(case.tables.arguments(&self.sheet));
+        arguments.push(Argument::Input(vec![Piece::Hex(case.secret)]));
+        arguments.push(Argument::Input(vec![Piece::Hex(case.block)]));
         let function = self.function.name();
         self.sheet.add(Call::with_output(
             format!("{}-{label}", function.trim_start_matches("picnic_")),
@@ -211,7 +154,7 @@ impl Maker {
                 let (key_bytes, block_bytes) = (vec![key; set.width()], vec![block; set.width()]);
                 let case = self.case(kind, set, key_bytes, block_bytes, 0);
                 let label = format!("{kind}-set{}-key{key:02x}-block{block:02x}", set.number);
-                let outcome = self.outcome(&case);
+                let outcome = outcome(self.function, &case);
                 self.add(label, case, outcome);
             }
         }
@@ -225,7 +168,7 @@ impl Maker {
                 let more = MORE[i % MORE.len()];
                 let case = self.case(kind, set, secret, block, more);
                 let label = format!("{kind}-set{}-random{i}-more{more}", set.number);
-                let outcome = self.outcome(&case);
+                let outcome = outcome(self.function, &case);
                 self.add(label, case, outcome);
             }
         }
@@ -238,31 +181,11 @@ impl Maker {
             let mut case = self.case("real", set, secret, block, 0);
             choice.spoil(&mut case);
             let label = format!("refused-set{}-{}", set.number, choice.label());
-            let outcome = self.outcome(&case);
+            let outcome = outcome(self.function, &case);
             assert_eq!(outcome, Err(choice.refusal()), "{label}");
             self.add(label, case, outcome);
         }
     }
-}
-
-/// The three tables, in the order of the arguments.
-const TABLES: [&str; 3] = ["keys", "layers", "constants"];
-
-fn table_name(kind: &str, what: &str, set: &Set) -> String {
-    format!("{kind}-{what}-{}", set.number)
-}
-
-/// A table one byte shorter, one longer, and empty.
-fn other_tables(name: &str, table: fn(&mut Case) -> &mut Table) -> Vec<Wrong> {
-    let fault = |how: &str, change: fn(&mut Table)| {
-        let name = format!("{name}-{how}");
-        Wrong::new(&name, Refusal::Table, move |case| change(table(case)))
-    };
-    vec![
-        fault("short", |table| table.lent -= 1),
-        fault("long", |table| table.lent += 1),
-        fault("empty", |table| table.lent = 0),
-    ]
 }
 
 /// Something wrong with the arguments.
@@ -270,17 +193,16 @@ type Wrong = Fault<Case>;
 
 /// All that can be wrong.
 fn faults() -> Vec<Wrong> {
-    let groups: [Vec<Wrong>; 7] = [
-        no_sets(|case| &mut case.set),
-        other_tables("keys", |case| &mut case.keys),
-        other_tables("layers", |case| &mut case.layers),
-        other_tables("constants", |case| &mut case.constants),
-        other_lengths("secret", Refusal::Key, |case| &mut case.secret),
-        other_lengths("block", Refusal::Key, |case| &mut case.block),
+    let groups: [Vec<Wrong>; 5] = [
+        within(no_sets(), |case: &mut Case| &mut case.set),
+        within(tables::faults(), |case: &mut Case| &mut case.tables),
+        within(other_lengths("secret", Refusal::Key), |case: &mut Case| {
+            &mut case.secret
+        }),
+        within(other_lengths("block", Refusal::Key), |case: &mut Case| {
+            &mut case.block
+        }),
         vec![
-            Wrong::new("tables-swapped", Refusal::Table, |case| {
-                std::mem::swap(&mut case.keys, &mut case.layers);
-            }),
             Wrong::new("output-short", Refusal::Room, |case| case.output -= 1),
             Wrong::new("output-half", Refusal::Room, |case| case.output /= 2),
             Wrong::new("output-empty", Refusal::Room, |case| case.output = 0),
@@ -310,6 +232,7 @@ pub fn sheet(function: Function) -> Sheet {
 mod tests {
     use super::*;
     use crate::calls::tests::check_outputs;
+    use crate::lowmc::Tables;
     use std::sync::OnceLock;
 
     const BOTH: [Function; 2] = [Function::Encrypt, Function::PublicKey];
@@ -333,7 +256,7 @@ mod tests {
         let (secret, block) = (vec![1; set.width()], vec![2; set.width()]);
         let mut case = maker.case("zero", set, secret, block, 0);
         change(&mut case);
-        maker.outcome(&case).err()
+        outcome(function, &case).err()
     }
 
     /// Each check where it begins to hold.
@@ -345,12 +268,12 @@ mod tests {
             (|case| case.output += 1, None),
             (|case| case.set += 3, Some(NoSet)),
             (|case| case.set = 0, Some(NoSet)),
-            (|case| case.keys.lent -= 1, Some(Table)),
-            (|case| case.keys.lent += 1, Some(Table)),
-            (|case| case.layers.lent -= 1, Some(Table)),
-            (|case| case.layers.lent += 1, Some(Table)),
-            (|case| case.constants.lent -= 1, Some(Table)),
-            (|case| case.constants.lent += 1, Some(Table)),
+            (|case| case.tables.keys.bytes.truncate(15), Some(Table)),
+            (|case| case.tables.keys.bytes.push(0), Some(Table)),
+            (|case| case.tables.layers.bytes.truncate(15), Some(Table)),
+            (|case| case.tables.layers.bytes.push(0), Some(Table)),
+            (|case| case.tables.constants.bytes.truncate(15), Some(Table)),
+            (|case| case.tables.constants.bytes.push(0), Some(Table)),
             (|case| case.secret.truncate(15), Some(Key)),
             (|case| case.secret.push(0), Some(Key)),
             (|case| case.block.truncate(15), Some(Key)),
@@ -372,7 +295,7 @@ mod tests {
         let order = [Refusal::NoSet, Refusal::Table, Refusal::Key, Refusal::Room];
         let faults: [Change; 4] = [
             |case| case.set = 4,
-            |case| case.constants.lent = 0,
+            |case| case.tables.constants.bytes.clear(),
             |case| case.block.clear(),
             |case| case.output = 0,
         ];

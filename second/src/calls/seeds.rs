@@ -5,7 +5,7 @@
 
 use std::collections::BTreeSet;
 
-use super::faults::{choices, no_sets, other_lengths, Fault};
+use super::faults::{choices, no_sets, other_lengths, within, Fault};
 use super::{random_piece, Argument, Call, Outcome, Piece, Sheet};
 use crate::answers::Refusal;
 use crate::hashing::derived_seeds;
@@ -144,9 +144,13 @@ type Wrong = Fault<Case>;
 /// All that can be wrong.
 fn faults() -> Vec<Wrong> {
     let groups: [Vec<Wrong>; 4] = [
-        no_sets(|case| &mut case.set),
-        other_lengths("secret", Refusal::Key, |case| &mut case.secret),
-        other_lengths("public", Refusal::Key, |case| &mut case.public),
+        within(no_sets(), |case: &mut Case| &mut case.set),
+        within(other_lengths("secret", Refusal::Key), |case: &mut Case| {
+            &mut case.secret
+        }),
+        within(other_lengths("public", Refusal::Key), |case: &mut Case| {
+            &mut case.public
+        }),
         vec![
             Wrong::new("secret-double", Refusal::Key, |case| {
                 case.secret.resize(case.public.len(), 0);

@@ -8,7 +8,7 @@ use super::{Lowmc, Tables};
 
 /// A string of up to 64·W bits. Bit 0 is the highest bit of word 0, and the
 /// bits behind the string's end are zero.
-type Block<const W: usize> = [u64; W];
+pub(crate) type Block<const W: usize> = [u64; W];
 
 impl Lowmc {
     /// The encryption of a block under a key, as `encrypt` gives it. A block
@@ -25,22 +25,34 @@ impl Lowmc {
     }
 
     fn encrypt_in<const W: usize>(&self, tables: &Tables, key: &[u8], block: &[u8]) -> Vec<u8> {
+        let (key, block) = (self.block::<W>(key), self.block(block));
+        self.block_bytes(&self.encrypt_seen(tables, &key, &block, |_| ()))
+    }
+
+    /// The encryption of a block. The states before each layer of S-boxes, and
+    /// the ciphertext, are shown as they come.
+    pub(crate) fn encrypt_seen<const W: usize>(
+        &self,
+        tables: &Tables,
+        key: &Block<W>,
+        block: &Block<W>,
+        mut show: impl FnMut(Block<W>),
+    ) -> Block<W> {
         let firsts = self.firsts::<W>();
-        let key = self.block::<W>(key);
-        let mut state = xor(self.product(&tables.keys, 0, &key), self.block(block));
+        let mut state = xor(self.product(&tables.keys, 0, key), *block);
+        show(state);
         for i in 1..=self.r {
             state = substitute(&state, &firsts);
             state = self.product(&tables.layers, i - 1, &state);
-            let constant = &tables.constants[(i - 1) * self.width()..i * self.width()];
-            state = xor(state, self.block(constant));
-            state = xor(state, self.product(&tables.keys, i, &key));
+            state = xor(state, self.constant_block(&tables.constants, i - 1));
+            state = xor(state, self.product(&tables.keys, i, key));
+            show(state);
         }
-        let bytes = state.iter().flat_map(|word| word.to_be_bytes());
-        bytes.take(self.width()).collect()
+        state
     }
 
     /// The first bit of each S-box.
-    fn firsts<const W: usize>(&self) -> Block<W> {
+    pub(crate) fn firsts<const W: usize>(&self) -> Block<W> {
         let mut block = [0; W];
         for i in 0..self.s {
             block[3 * i / 64] |= 1 << (63 - 3 * i % 64);
@@ -49,43 +61,69 @@ impl Lowmc {
     }
 
     /// The first n bits of a byte string.
-    fn block<const W: usize>(&self, bytes: &[u8]) -> Block<W> {
-        let mut block = row(bytes);
+    pub(crate) fn block<const W: usize>(&self, bytes: &[u8]) -> Block<W> {
+        let mut block = row(&bytes[..self.width()]);
         let padding = 64 * W - self.n;
         block[W - 1] &= u64::MAX << padding;
         block
     }
 
-    /// The product of matrix number `index` of a table and a vector. Rows of
-    /// whole words are by far the most, so these are read in a way of their
-    /// own.
+    /// The bytes of a block.
+    pub(crate) fn block_bytes<const W: usize>(&self, block: &Block<W>) -> Vec<u8> {
+        let bytes = block.iter().flat_map(|word| word.to_be_bytes());
+        bytes.take(self.width()).collect()
+    }
+
+    /// Round constant number `index`.
+    pub(crate) fn constant_block<const W: usize>(&self, table: &[u8], index: usize) -> Block<W> {
+        self.block(&table[index * self.width()..])
+    }
+
+    /// The product of matrix number `index` of a table and a vector.
     fn product<const W: usize>(&self, table: &[u8], index: usize, vector: &Block<W>) -> Block<W> {
+        let [product] = self.products(table, index, std::array::from_ref(vector));
+        product
+    }
+
+    /// The products of matrix number `index` of a table and some vectors. Rows
+    /// of whole words are by far the most, so these are read in a way of their
+    /// own.
+    pub(crate) fn products<const W: usize, const N: usize>(
+        &self,
+        table: &[u8],
+        index: usize,
+        vectors: &[Block<W>; N],
+    ) -> [Block<W>; N] {
+        #[cfg(test)]
+        crate::work::counted::add(0, N);
         let start = index * self.matrix_bytes();
         let matrix = &table[start..start + self.matrix_bytes()];
         if self.width() == 8 * W {
-            parities(matrix.chunks_exact(8 * W).map(whole_row), vector)
+            parities(matrix.chunks_exact(8 * W).map(whole_row), vectors)
         } else {
-            parities(matrix.chunks_exact(self.width()).map(row), vector)
+            parities(matrix.chunks_exact(self.width()).map(row), vectors)
         }
     }
 }
 
-/// For each row, in order, the parity of the row AND the vector. What a row
-/// has behind the vector's last bit plays no part, since the vector is zero
+/// For each row, in order, the parity of the row AND each vector. What a row
+/// has behind a vector's last bit plays no part, since the vector is zero
 /// there.
 #[inline(always)]
-fn parities<const W: usize>(
+fn parities<const W: usize, const N: usize>(
     mut rows: impl Iterator<Item = Block<W>>,
-    vector: &Block<W>,
-) -> Block<W> {
-    let mut product = [0; W];
-    for word in &mut product {
+    vectors: &[Block<W>; N],
+) -> [Block<W>; N] {
+    let mut products = [[0; W]; N];
+    for word in 0..W {
         for (place, row) in (0..64).rev().zip(&mut rows) {
-            let common = (0..W).fold(0, |sum, i| sum ^ (row[i] & vector[i]));
-            *word |= u64::from(common.count_ones() & 1) << place;
+            for (product, vector) in products.iter_mut().zip(vectors) {
+                let common = (0..W).fold(0, |sum, i| sum ^ (row[i] & vector[i]));
+                product[word] |= u64::from(common.count_ones() & 1) << place;
+            }
         }
     }
-    product
+    products
 }
 
 /// The words of 8·W bytes.
@@ -106,18 +144,18 @@ fn row<const W: usize>(bytes: &[u8]) -> Block<W> {
     words
 }
 
-fn xor<const W: usize>(x: Block<W>, y: Block<W>) -> Block<W> {
+pub(crate) fn xor<const W: usize>(x: Block<W>, y: Block<W>) -> Block<W> {
     from_fn(|i| x[i] ^ y[i])
 }
 
 /// The string with its bits moved `by` places to the front, by 1 to 63.
-fn forward<const W: usize>(x: &Block<W>, by: usize) -> Block<W> {
+pub(crate) fn forward<const W: usize>(x: &Block<W>, by: usize) -> Block<W> {
     let next = |i| if i + 1 < W { x[i + 1] } else { 0 };
     from_fn(|i| x[i] << by | next(i) >> (64 - by))
 }
 
 /// The string with its bits moved `by` places to the back, by 1 to 63.
-fn back<const W: usize>(x: &Block<W>, by: usize) -> Block<W> {
+pub(crate) fn back<const W: usize>(x: &Block<W>, by: usize) -> Block<W> {
     let last = |i| if i > 0 { x[i - 1] } else { 0 };
     from_fn(|i| x[i] >> by | last(i) << (64 - by))
 }
@@ -145,7 +183,11 @@ fn substitute<const W: usize>(state: &Block<W>, firsts: &Block<W>) -> Block<W> {
 
 /// Bits that stand at first places, the second string's moved to the second
 /// places and the third string's to the third.
-fn three_places<const W: usize>(first: &Block<W>, second: &Block<W>, third: &Block<W>) -> Block<W> {
+pub(crate) fn three_places<const W: usize>(
+    first: &Block<W>,
+    second: &Block<W>,
+    third: &Block<W>,
+) -> Block<W> {
     let (second, third) = (back(second, 1), back(third, 2));
     from_fn(|i| first[i] | second[i] | third[i])
 }
