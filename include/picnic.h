@@ -106,6 +106,9 @@ extern "C" {
  * | picnic_challenge  | 1 5 6 8       | the values of a challenge, one a byte            | PICNIC_.._VALUES       |
  * | picnic_read       | 1 6 9 10 9 11 | the unpacked form of a signature                 | PICNIC_.._UNPACKED     |
  * | picnic_write      | 1 6 9 10 11   | the signature of an unpacked form                | the signature's length |
+ * | picnic_sign       | 1 to 8        | the signature of a message                       | the signature's length |
+ * | picnic_verify     | 1 to 6, 9 10  | nothing but the room                             | 0                      |
+ * |                   | 9 11, 8 12    |                                                  |                        |
  */
 
 /* SHAKE128 for set 1, SHAKE256 for sets 2 and 3. Input of any length; refusal 6 for an output longer than
@@ -147,6 +150,28 @@ uint64_t picnic_read(uint64_t set, const uint8_t *signature, size_t signature_le
    PICNIC_.._SIGNATURE bytes, however short the signature is. */
 uint64_t picnic_write(uint64_t set, const uint8_t *unpacked, size_t unpacked_length, uint8_t *output,
                       size_t output_length);
+
+/* Signs a message of 1 to PICNIC_MESSAGE_MOST bytes under a secret key. The public key is its ciphertext, then its
+   plaintext block: refusal 7 if they are no pair. Limit: at most so many blocks of the challenge are hashed, 1 to
+   PICNIC_LIMIT_MOST; refusal 8 if they give too few values. The seeds, PICNIC_.._SEEDS bytes, are random or from
+   picnic_seeds, and never used for two messages; they and the secret key stay secret. The room holds at least
+   PICNIC_.._ROOM bytes; so many of them are zero after an answer of 0 or 8. The output holds at least
+   PICNIC_.._SIGNATURE bytes, however short the signature is; with 8 it is kept. */
+uint64_t picnic_sign(uint64_t set, const uint8_t *keys, size_t keys_length, const uint8_t *layers, size_t layers_length,
+                     const uint8_t *constants, size_t constants_length, const uint8_t *secret, size_t secret_length,
+                     const uint8_t *public_key, size_t public_length, const uint8_t *message, size_t message_length,
+                     uint64_t limit, const uint8_t *seeds, size_t seeds_length, uint8_t *room, size_t room_length,
+                     uint8_t *output, size_t output_length);
+
+/* Verifies the signature of a message under a public key: 0 if it is valid, 12 if the challenge recomputed from it is
+   another. Limit and room as for signing; a limit no smaller than the signer's never turns a valid signature away. The
+   room's PICNIC_.._ROOM bytes are zero after an answer of 0, 8 or 12. Refused in this order: 1 to 6; 9 for a signature
+   shorter than its header and salt, 10, 9 for any other length than the header asks for, 11; 8, 12. */
+uint64_t picnic_verify(uint64_t set, const uint8_t *keys, size_t keys_length, const uint8_t *layers,
+                       size_t layers_length, const uint8_t *constants, size_t constants_length,
+                       const uint8_t *public_key, size_t public_length, const uint8_t *message, size_t message_length,
+                       uint64_t limit, uint8_t *room, size_t room_length, const uint8_t *signature,
+                       size_t signature_length);
 
 #ifdef __cplusplus
 }

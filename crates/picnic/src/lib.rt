@@ -5,6 +5,8 @@ ghost use Rattle.answers.specs.Outcome.{Promise};
 ghost use Rattle.hashing.specs.HashCall.{hashed};
 ghost use Rattle.hashing.specs.SeedsCall.{seeded};
 ghost use Rattle.challenge.specs.ChallengeCall.{challenged};
+ghost use Rattle.signer.specs.Sign.{Signed};
+ghost use Rattle.verifier.specs.Verify.{Verified};
 ghost use Rattle.lowmc.specs.Calls.{encryptOutcome, publicKeyOutcome};
 ghost use Rattle.shape.specs.Reading.{read, write};
 
@@ -84,4 +86,94 @@ pub extern "C" fn picnic_write(set: u64, unpacked: &[u8], output: &mut [u8]) -> 
     ensures { λ r. ⌜ Promise (write (numbered set) (now (unpacked .entry)) (length (now (output .entry)))) (now (output .entry)) r (now (output .exit)) ⌝ }
 {
     signature::write(set, unpacked, output)
+}
+
+// Signs message: the signature at the start of output. The room's needed bytes are set to zero once the first seven checks pass.
+#[no_mangle]
+pub extern "C" fn picnic_sign(
+    set: u64,
+    keys: &[u8],
+    layers: &[u8],
+    constants: &[u8],
+    secret: &[u8],
+    public: &[u8],
+    message: &[u8],
+    limit: u64,
+    seeds: &[u8],
+    room: &mut [u8],
+    output: &mut [u8],
+) -> u64
+    ensures { λ r. ⌜
+        Signed
+        (record {
+          set = set;
+          keys = now (keys .entry);
+          layers = now (layers .entry);
+          constants = now (constants .entry);
+          secret = now (secret .entry);
+          public = now (public .entry);
+          message = now (message .entry);
+          limit = limit;
+          seeds = now (seeds .entry);
+          room = now (room .entry);
+          output = now (output .entry);
+        })
+        r (now (room .exit)) (now (output .exit))
+        ⌝ }
+{
+    signer::sign(
+        set,
+        keys,
+        layers,
+        constants,
+        secret,
+        public,
+        message,
+        limit,
+        seeds,
+        room,
+        output,
+    )
+}
+
+// Verifies the signature of message: 0 if it is valid. The room's needed bytes are set to zero once the signature is read.
+#[no_mangle]
+pub extern "C" fn picnic_verify(
+    set: u64,
+    keys: &[u8],
+    layers: &[u8],
+    constants: &[u8],
+    public: &[u8],
+    message: &[u8],
+    limit: u64,
+    room: &mut [u8],
+    signature: &[u8],
+) -> u64
+    ensures { λ r. ⌜
+        Verified
+        (record {
+          set = set;
+          keys = now (keys .entry);
+          layers = now (layers .entry);
+          constants = now (constants .entry);
+          public = now (public .entry);
+          message = now (message .entry);
+          limit = limit;
+          room = now (room .entry);
+          signature = now (signature .entry);
+        })
+        r (now (room .exit))
+        ⌝ }
+{
+    verifier::verify(
+        set,
+        keys,
+        layers,
+        constants,
+        public,
+        message,
+        limit,
+        room,
+        signature,
+    )
 }

@@ -2,13 +2,13 @@
 use mathlib.Core.Path.{_≡_, refl, sym, ap, ap₂, _∙_}
 use mathlib.Core.Bool.{true, false}
 use mathlib.Core.List.{[], _∷_, _++_, append-assoc}
-use Prim.Native.Nat.{ℕ, suc, _+_, _*_, _≤_, _<_}
+use Prim.Native.Nat.{ℕ, suc, _+_, _-_, _*_, _≤_, _<_}
 use native.Mathlib.Omega.{arith}
-use native.Mathlib.Nat.{mul-le-mul-right, suc-mul}
+use native.Mathlib.Nat.{mul-le-mul-right, suc-mul, le-of-eq}
 use lib.Dec.{lit≤}
 use borrow.Author.Tests.{eq-eqb, ne-eqb}
-use lib.ListN.{length, take, drop, length-append}
-use lib.Seq.{length-take-le, take-at}
+use lib.ListN.{length, take, drop, length-append, length-drop}
+use lib.Seq.{length-take-le, take-at, take-all}
 use Rattle.slices.specs.Slices.{Bytes, put}
 use Rattle.slices.proofs.SliceLaws.{put-put}
 use Rattle.bits.specs.Bits.{Bits, upTo}
@@ -137,6 +137,10 @@ take-small l m n h g = omega (arith, length-take-le m l h)
 
 pub take-below : (l : Bytes) (m n : ℕ) → m ≤ length l → m < n → length (take m l) < n
 take-below l m n h g = omega (arith, length-take-le m l h)
+
+-- the rest of a slice, by the code's number x
+pub rest-as : (l : Bytes) (x n : ℕ) → x ≡ n → take (length l - x) (drop x l) ≡ drop n l
+rest-as l x n e = take-all (length l - x) (drop x l) (le-of-eq (length-drop x l)) ∙ ap (λ (k : ℕ). drop k l) e
 
 -- a part that holds n bytes is n bytes long
 pub part-long : (l vs : Bytes) (n m : ℕ) → m ≡ n → take n l ≡ vs → length vs ≡ n → length (take m l) ≡ m

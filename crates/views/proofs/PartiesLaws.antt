@@ -1,7 +1,10 @@
 -- Laws of three parties in a row: what stands at each party's place.
 use mathlib.Core.Path.{_≡_, refl}
+use Prim.Native.Nat.{ℕ, zero, suc, _<_}
+use native.Mathlib.Omega.{arith}
 use Rattle.circuit.specs.Round.{Party, party0, party1, party2, next, third}
-use Rattle.views.specs.Parties.{fromParty}
+use Rattle.circuit.specs.Tapes.{number}
+use Rattle.views.specs.Parties.{partyOf, fromParty}
 
 module _ {A : Type 0} where
   pub at-first : (e : Party) (x y z : A) → fromParty e x y z e ≡ x
@@ -28,3 +31,10 @@ module _ {A : Type 0} where
   all-three P party0 a b c = elim [ party0 ↦ a | party1 ↦ b | party2 ↦ c ]
   all-three P party1 a b c = elim [ party0 ↦ c | party1 ↦ a | party2 ↦ b ]
   all-three P party2 a b c = elim [ party0 ↦ b | party1 ↦ c | party2 ↦ a ]
+
+-- a challenge value is the number of its party
+pub number-of : (e : ℕ) → e < 3 → e ≡ number (partyOf e)
+number-of zero h = refl
+number-of (suc zero) h = refl
+number-of (suc (suc zero)) h = refl
+number-of (suc (suc (suc e))) h = absurd (omega arith)

@@ -1,0 +1,13 @@
+pub mod JoinedLaws
+pub mod CollisionLaws
+pub mod OpenedLaws
+pub mod RunLaws
+pub mod RoundSoundProof
+pub mod SignatureSoundProof
+pub mod HonestRoundProof
+pub mod HonestRunsProof
+pub mod SigningLaws
+pub mod AcceptedProof
+pub mod ReadAndWriteProof
+pub mod DeterminedProof
+pub mod TableProof

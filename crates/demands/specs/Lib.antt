@@ -1,0 +1,6 @@
+pub mod Hashed
+pub mod Sound
+pub mod Accepted
+pub mod ReadAndWrite
+pub mod Determined
+pub mod Table

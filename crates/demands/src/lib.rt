@@ -1,0 +1,1 @@
+// Statements and proofs only: what the calls together are worth.

@@ -1,0 +1,6 @@
+pub mod CheckLaws
+pub mod SeedLaws
+pub mod PlayLaws
+pub mod WriteLaws
+pub mod WriteRoundsLaws
+pub mod SignLaws

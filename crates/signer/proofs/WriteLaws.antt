@@ -1,0 +1,137 @@
+-- Laws of what is written of one round: parties by their numbers, and what is shown from parts at the start of arrays.
+use mathlib.Core.Path.{_≡_, refl, sym, ap, _∙_, subst}
+use mathlib.Core.Bool.{Bool, true, false, cond}
+use mathlib.Core.List.{List, _∷_}
+use Prim.Native.Nat.{ℕ, zero, suc, _+_, _-_, _*_, _%_, _≤_, _<_}
+use native.Mathlib.Omega.{arith}
+use lib.Dec.{eqb}
+use lib.ListN.{length, take, drop, replicate}
+use lib.Seq.{length-take-le}
+use borrow.Author.Tests.{eq-eqb, ne-eqb}
+use Rattle.slices.specs.Slices.{Bytes}
+use Rattle.bits.specs.Bytes.{bitsOf, bytesOf, width}
+use Rattle.bits.specs.Rows.{Rows, flat, Rowed}
+use Rattle.sets.specs.declared.Set.{Set}
+use Rattle.sets.specs.Sets.{IsSet}
+use Rattle.sets.specs.Lengths.{w, seedWidth, transcript, seedsLength}
+use Rattle.circuit.specs.Lowmc.{Cipher}
+use Rattle.circuit.specs.Round.{Party, party0, party1, party2, next, third, transcript as transcriptRows}
+use Rattle.circuit.specs.Tapes.{number}
+use Rattle.lowmc.specs.Lent.{cipherOf}
+use Rattle.round.specs.Engine.{share, words, Written}
+use Rattle.round.proofs.InputsLaws.{next-number}
+use Rattle.shape.specs.Form.{Shown, Sized}
+use Rattle.parts.specs.Places.{showing}
+use Rattle.views.specs.Parties.{partyOf}
+use Rattle.views.specs.Signed.{seedAt, saltAt, tapes, shares, shareBits, gateRows, transcripts, commitments, shownShare, shown}
+use Rattle.room.proofs.RoomLaws.{sizes}
+use Rattle.signer.specs.declared.Played.{Played}
+use Rattle.signer.specs.Played.{PlayedAs}
+use Rattle.signer.proofs.SeedLaws.{seed-part, length-seed}
+
+-- ---- parties by number
+
+-- the number of the party that a value names
+pub own-number : (e : ℕ) → e < 3 → e ≡ number (partyOf e)
+own-number zero h = refl
+own-number (suc zero) h = refl
+own-number (suc (suc zero)) h = refl
+own-number (suc (suc (suc e))) h = absurd (omega arith)
+
+-- that of the party behind it
+pub number-after : (e : ℕ) → e < 3 → (e + 1) % 3 ≡ number (next (partyOf e))
+number-after e h = next-number e (partyOf e) (own-number e h)
+
+third-number : (k : ℕ) (j : Party) → k ≡ number j → (k + 2) % 3 ≡ number (third j)
+third-number k party0 e = ap (λ (z : ℕ). (z + 2) % 3) e
+third-number k party1 e = ap (λ (z : ℕ). (z + 2) % 3) e
+third-number k party2 e = ap (λ (z : ℕ). (z + 2) % 3) e
+
+-- that of the third
+pub number-last : (e : ℕ) → e < 3 → (e + 2) % 3 ≡ number (third (partyOf e))
+number-last e h = third-number e (partyOf e) (own-number e h)
+
+-- ---- the share that is shown
+
+take-zeros : (n m : ℕ) → n ≤ m → take n (replicate {A = ℕ} m 0) ≡ replicate n 0
+take-zeros zero m h = refl
+take-zeros (suc n) zero h = absurd (omega arith)
+take-zeros (suc n) (suc m) h = ap (λ (l : Bytes). 0 ∷ l) (take-zeros n m (omega arith))
+
+-- beside value 0 zeros are shown
+pub no-share : {p : Set} → IsSet p → (e : ℕ) → e ≡ 0 → (vs : Bytes) → take (w p) (replicate {A = ℕ} 32 0) ≡ cond (eqb e 0) (replicate (w p) 0) vs
+no-share {p} h e z vs = rw (eq-eqb e 0 z) (take-zeros (w p) 32 (sizes h .width))
+
+-- beside another the share itself
+pub some-share : (n e : ℕ) → (e ≡ 0 → ⊥) → {xs vs : Bytes} → xs ≡ vs → xs ≡ cond (eqb e 0) (replicate n 0) vs
+some-share n e z h = rw (ne-eqb e 0 z) h
+
+-- ---- a round's parts, by the code's lengths m of a transcript, k of a share and s of a seed
+
+module _ (p : Set) (t e m k s : ℕ) (em : m ≡ transcript p) (ek : k ≡ w p) (es : s ≡ seedWidth p) (commitment said share seeds : Bytes) where
+  abbrev firstAt : ℕ
+  firstAt = (3 * t + e) * s
+
+  abbrev secondAt : ℕ
+  secondAt = (3 * t + (e + 1) % 3) * s
+
+  -- what is lent of them
+  abbrev lent : Shown
+  lent =
+      showing (take (p .digest) commitment) (take m said) (take (firstAt + s - firstAt) (drop firstAt seeds))
+      (take (secondAt + s - secondAt) (drop secondAt seeds)) (take k share)
+
+  pub lent-sized : IsSet p → length commitment ≡ 64 → length said ≡ 143 → length share ≡ 32 → length seeds ≡ seedsLength p → t < p .t → e < 3
+      → Sized p lent
+  lent-sized h lc ls lx le l n = record {
+    commitment = length-take-le (p .digest) commitment (omega (arith, sizes h .digest));
+    transcript = length-take-le m said (omega (arith, sizes h .transcript)) ∙ em;
+    seed1 = ap length (seed-part p seeds s es t e (partyOf e) (own-number e n)) ∙ length-seed p seeds t le l (partyOf e);
+    seed2 =
+        ap length (seed-part p seeds s es t ((e + 1) % 3) (next (partyOf e)) (number-after e n)) ∙ length-seed p seeds t le l (next (partyOf e));
+    share = length-take-le k share (omega (arith, sizes h .width)) ∙ ek;
+  }
+
+  -- they are the parts of parties e and e+1
+  pub lent-parts : e < 3
+      → lent ≡ showing (take (p .digest) commitment) (take (transcript p) said) (seedAt p seeds t (partyOf e)) (seedAt p seeds t (next (partyOf e)))
+      (take (w p) share)
+  lent-parts n =
+      let a = seed-part p seeds s es t e (partyOf e) (own-number e n) in
+      let b = seed-part p seeds s es t ((e + 1) % 3) (next (partyOf e)) (number-after e n) in
+      λ i. showing (take (p .digest) commitment) (take (em i) said) (a i) (b i) (take (ek i) share)
+
+-- ---- what is shown of a round that was played
+
+-- equal words have the same rows
+pub rowed-as : (m n : ℕ) (us ws : List ℕ) → us ≡ ws → Rowed m n ws → Rowed m n us
+rowed-as m n us ws e h = subst (λ (l : List ℕ). Rowed m n l) (sym e) h
+
+module _ (p : Set) (keys layers constants secret block seeds : Bytes) (t e : ℕ) where
+  abbrev C : Cipher
+  C = cipherOf p keys layers constants
+
+  abbrev ts : Party → Bytes
+  ts = tapes p C (saltAt p seeds) t (seedAt p seeds t)
+
+  -- the share for the party that a value names
+  shared : (vs : Bytes) → vs ≡ shares C secret ts party2 → (a b : Bool)
+      → cond a (replicate (w p) 0) vs ≡ shownShare p C (saltAt p seeds) t (seedAt p seeds t) secret block (cond a party0 (cond b party1 party2))
+  shared vs q true b = refl
+  shared vs q false true = q
+  shared vs q false false = q
+
+  -- the parts that are written are what the signer shows, where said are the bytes of any rows that the words ws hold
+  pub shown-as : (x : Played) (commitment said share′ : Bytes) (ws : List ℕ) → PlayedAs C secret ts block x
+      → commitment ≡ commitments p C (saltAt p seeds) t (seedAt p seeds t) secret block (third (partyOf e))
+      → ws ≡ words (x .said) (next (partyOf e))
+      → ((u : Rows) → Written (3 * p .s) (p .r) u ws → said ≡ bytesOf (3 * p .s * p .r) (flat (3 * p .s) u))
+      → share′ ≡ cond (eqb e 0) (replicate (w p) 0) (bytesOf (p .n) (share (x .inputs) party2))
+      → showing commitment said (seedAt p seeds t (partyOf e)) (seedAt p seeds t (next (partyOf e))) share′
+      ≡ shown p C (saltAt p seeds) t (seedAt p seeds t) secret block (partyOf e)
+  unfolding shown transcripts
+  shown-as x commitment said share′ ws h ec ew es ex =
+      let u : Rows = transcriptRows C (bitsOf block) (shareBits C secret ts) (gateRows C secret ts) (next (partyOf e)) in
+      let r = es u (subst (λ (l : List ℕ). Written (3 * p .s) (p .r) u l) (sym ew) (h .said (next (partyOf e)))) in
+      let y = ex ∙ shared (bytesOf (p .n) (share (x .inputs) party2)) (h .inputs party2) (eqb e 0) (eqb e 1) in
+      λ i. showing (ec i) (r i) (seedAt p seeds t (partyOf e)) (seedAt p seeds t (next (partyOf e))) (y i)

@@ -1,0 +1,3 @@
+pub mod Sign
+pub mod Played
+pub mod Finished

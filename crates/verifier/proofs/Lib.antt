@@ -1,0 +1,5 @@
+pub mod OpenedLaws
+pub mod FillLaws
+pub mod CheckLaws
+pub mod VerdictLaws
+pub mod VerifyLaws
