@@ -2,7 +2,7 @@
 -- again, and the challenge's input is recomputed from it.
 use mathlib.Core.Path.{_≡_, refl, ap, ap₂, _∙_}
 use mathlib.Core.List.{_++_}
-use Prim.Native.Nat.{ℕ, zero, suc, _+_, _*_, _<_, _≤_}
+use Prim.Native.Nat.{ℕ, suc, _+_, _*_, _<_, _≤_}
 use native.Mathlib.Nat.{mul-le-mul-right, suc-mul}
 use native.Mathlib.Omega.{arith}
 use lib.ListN.{length, getD, length-drop}
@@ -30,15 +30,10 @@ use Rattle.views.specs.Opened.{recomputedOutputs, recomputedCommitments}
 use Rattle.views.specs.Input.{ciphertext, plaintext, byRound, filling, challengeInput, signedOutputs, signedCommitments, signerFilling}
 use Rattle.views.specs.Input.{openedOutputs, openedCommitments, verifierFilling}
 use Rattle.views.specs.Complete.{Regained}
+use Rattle.views.proofs.PartiesLaws.{number-of}
 use Rattle.signer.specs.Sign.{shownAt, signatureFor}
 use Rattle.demands.specs.Sound.{ReadRuns, Reread, HonestRuns}
 use Rattle.demands.proofs.HonestRoundProof.{shown-fits, regained}
-
-number-of-party : (v : ℕ) → v < 3 → number (partyOf v) ≡ v
-number-of-party zero l = refl
-number-of-party (suc zero) l = refl
-number-of-party (suc (suc zero)) l = refl
-number-of-party (suc (suc (suc v))) l = absurd (omega arith)
 
 number-small : (j : Party) → number j ≤ 2
 number-small party0 = omega arith
@@ -83,7 +78,7 @@ module _ {p : Set} (q : IsSet p) (keys layers constants secret public seeds mess
 
   fits : (t : ℕ) → t < p .t → Fit p (getD es t 0) (us t)
   fits t h =
-      rw (number-of-party (getD es t 0) (v t)) at
+      rw (← (number-of (getD es t 0) (v t))) at
       (shown-fits q keys layers constants (saltAt p seeds) t (seedAt p seeds t) (length-seedAt p seeds l t h) secret (plaintext p public)
       (partyOf (getD es t 0)))
 

@@ -1,6 +1,5 @@
 -- Laws of the room: its places, what is put there, and how bytes come to stand at the start of an array.
 use mathlib.Core.Path.{_≡_, refl, sym, ap, ap₂, _∙_}
-use mathlib.Core.Bool.{true, false}
 use mathlib.Core.List.{[], _∷_, _++_, append-assoc}
 use Prim.Native.Nat.{ℕ, suc, _+_, _-_, _*_, _≤_, _<_}
 use native.Mathlib.Omega.{arith}
@@ -11,10 +10,10 @@ use lib.ListN.{length, take, drop, length-append, length-drop}
 use lib.Seq.{length-take-le, take-at, take-all}
 use Rattle.slices.specs.Slices.{Bytes, put}
 use Rattle.slices.proofs.SliceLaws.{put-put}
-use Rattle.bits.specs.Bits.{Bits, upTo}
+use Rattle.bits.specs.Bits.{Bits}
 use Rattle.bits.specs.Bytes.{bytes, bytesOf, width}
 use Rattle.bits.proofs.BitsLaws.{upTo-in}
-use Rattle.bits.proofs.BytesLaws.{bytes-cong, length-bytesOf}
+use Rattle.bits.proofs.BytesLaws.{bytes-cong}
 use Rattle.sets.specs.declared.Set.{Set}
 use Rattle.sets.specs.Sets.{IsSet}
 use Rattle.sets.specs.Lengths.{w, transcript, roomLength}

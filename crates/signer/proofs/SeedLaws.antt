@@ -1,10 +1,8 @@
 -- Where the seeds and the salt lie in the lent seeds, and what the parts are that the code lends of them.
 use mathlib.Core.Path.{_≡_, sym, ap, _∙_}
 use Prim.Native.Nat.{ℕ, _+_, _-_, _*_, _%_, _≤_, _<_}
-use native.Mathlib.Nat.{le-of-eq}
 use native.Mathlib.Omega.{arith}
 use lib.ListN.{length, take, drop, length-drop}
-use lib.Seq.{take-all}
 use Rattle.slices.specs.Slices.{Bytes, part}
 use Rattle.bits.specs.Bytes.{width}
 use Rattle.sets.specs.declared.Set.{Set}
@@ -16,11 +14,7 @@ use Rattle.circuit.specs.Tapes.{number}
 use Rattle.lowmc.proofs.LentLaws.{row-room}
 use Rattle.shape.proofs.PartLaws.{length-part}
 use Rattle.views.specs.Signed.{seedAt, saltAt}
-use Rattle.room.proofs.RoomLaws.{sizes}
-
--- the rest of a slice, by the code's number x
-pub rest-as : (l : Bytes) (x n : ℕ) → x ≡ n → take (length l - x) (drop x l) ≡ drop n l
-rest-as l x n e = take-all (length l - x) (drop x l) (le-of-eq (length-drop x l)) ∙ ap (λ (k : ℕ). drop k l) e
+use Rattle.room.proofs.RoomLaws.{sizes, rest-as}
 
 -- the seeds of all rounds are at most 42048 bytes
 pub seeds-small : {p : Set} → IsSet p → 3 * p .t * seedWidth p ≤ 42048

@@ -6,10 +6,9 @@ use Prim.Native.Nat.{ℕ, _-_, _*_, _≤_}
 use native.Mathlib.Omega.{arith}
 use lib.Dec.{T}
 use lib.ListN.{length, take, drop, length-append, length-drop}
-use lib.Seq.{take-at, drop-at}
 use borrow.Author.Tests.{ltb-false}
 use Rattle.slices.specs.Slices.{Bytes, over, cleared, equal, joined}
-use Rattle.slices.proofs.SliceLaws.{cleared-rest, length-joined}
+use Rattle.slices.proofs.SliceLaws.{length-joined}
 use Rattle.bits.specs.Bits.{Bits}
 use Rattle.bits.specs.Bytes.{bitsOf, bytesOf, width}
 use Rattle.sets.specs.declared.Set.{Set}
@@ -41,10 +40,11 @@ use Rattle.views.specs.Parties.{three}
 use Rattle.views.specs.Signed.{saltAt}
 use Rattle.views.specs.Input.{plaintext, ciphertext, byRound, filling, challengeInput, signedOutputs, signedCommitments, signerFilling}
 use Rattle.room.specs.Room.{clears, roomAfter}
-use Rattle.room.proofs.RoomLaws.{sizes, take-as, filled-from}
+use Rattle.room.proofs.RoomLaws.{sizes, take-as, filled-from, rest-as}
+use Rattle.room.proofs.AfterLaws.{filled-front, filled-cleared, keeps-first}
 use Rattle.signer.specs.Sign.{Given, Signed, cipher, lengthChecks, firstBlock, checks, signatureFor, signatureOf, refusalFor, signatureBy, written, SameSigned}
 use Rattle.signer.specs.Finished.{Finished}
-use Rattle.signer.proofs.SeedLaws.{rest-as, salt-part}
+use Rattle.signer.proofs.SeedLaws.{salt-part}
 use Rattle.signer.proofs.PlayLaws.{length-outputs, length-commitments}
 
 -- ---- the key pair
@@ -105,18 +105,11 @@ module _ {p : Set} (i : IsSet p) (g : Given) where
 
     -- the needed bytes of the filled room, and what follows them
     front : take (roomLength p) room1 ≡ filled
-    unfolding over
-    front = ap (take (roomLength p)) er ∙ take-at filled (drop (length filled) (g .room)) (roomLength p) length-it
-
-    rest : drop (roomLength p) room1 ≡ drop (roomLength p) (g .room)
-    unfolding over
-    rest =
-        ap (drop (roomLength p)) er
-        ∙ (drop-at filled (drop (length filled) (g .room)) (roomLength p) length-it ∙ ap (λ (n : ℕ). drop n (g .room)) length-it)
+    front = filled-front p filled (g .room) length-it er (roomLength p) refl
 
     -- the room once it is cleared, where n is the code's length
     pub room-cleared : {room2 : Bytes} (n : ℕ) → n ≡ roomLength p → room2 ≡ cleared n room1 → room2 ≡ cleared (roomLength p) (g .room)
-    room-cleared n e q = q ∙ (ap (λ (k : ℕ). cleared k room1) e ∙ cleared-rest (roomLength p) room1 (g .room) rest)
+    room-cleared n e q = filled-cleared p filled (g .room) length-it er n e q
 
     module _ {vs vs′ : Bytes} {d : Filled}
         (ch : Fills p (h p 1 (challengeInput (take (roomLength p) room1) (saltAt p (g .seeds)) (g .public) (g .message))) (g .limit) vs d vs′) where
@@ -192,23 +185,6 @@ fitting {p} i g r e f =
     }
 
 -- ---- the promise, from what was found
-
--- each check of a list keeps the room
-abbrev keeping : List Check → Bool
-keeping [] = true
-keeping (k ∷ ks) = cond (clears (k .gives)) false (keeping ks)
-
-keeps-one : (b c : Bool) (r x : Refusal) (rest : Bool) → clears r ≡ c → T (cond c false rest) → (T rest → fine x ≡ false → clears x ≡ false)
-    → fine (cond b r x) ≡ false → clears (cond b r x) ≡ false
-keeps-one true false r x rest e t h f = e
-keeps-one false false r x rest e t h f = h t f
-keeps-one b true r x rest e t h f = absurd t
-
--- and so does the first that holds
-keeps-first : (ks : List Check) → T (keeping ks) → fine (first ks) ≡ false → clears (first ks) ≡ false
-unfolding first
-keeps-first [] t f = absurd (let z : _≡_ {A = ℕ} 0 1 = ap (λ (b : Bool). cond b 0 1) f in omega arith)
-keeps-first (k ∷ ks) t f = keeps-one (k .holds) (clears (k .gives)) (k .gives) (first ks) (keeping ks) refl t (keeps-first ks) f
 
 by-cases : {P : Type 0} (b : Bool) → (b ≡ true → P) → (b ≡ false → P) → P
 by-cases true f h = f refl

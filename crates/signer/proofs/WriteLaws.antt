@@ -24,6 +24,7 @@ use Rattle.shape.specs.Form.{Shown, Sized}
 use Rattle.parts.specs.Places.{showing}
 use Rattle.views.specs.Parties.{partyOf}
 use Rattle.views.specs.Signed.{seedAt, saltAt, tapes, shares, shareBits, gateRows, transcripts, commitments, shownShare, shown}
+use Rattle.views.proofs.PartiesLaws.{number-of}
 use Rattle.room.proofs.RoomLaws.{sizes}
 use Rattle.signer.specs.declared.Played.{Played}
 use Rattle.signer.specs.Played.{PlayedAs}
@@ -31,16 +32,9 @@ use Rattle.signer.proofs.SeedLaws.{seed-part, length-seed}
 
 -- ---- parties by number
 
--- the number of the party that a value names
-pub own-number : (e : ℕ) → e < 3 → e ≡ number (partyOf e)
-own-number zero h = refl
-own-number (suc zero) h = refl
-own-number (suc (suc zero)) h = refl
-own-number (suc (suc (suc e))) h = absurd (omega arith)
-
 -- that of the party behind it
 pub number-after : (e : ℕ) → e < 3 → (e + 1) % 3 ≡ number (next (partyOf e))
-number-after e h = next-number e (partyOf e) (own-number e h)
+number-after e h = next-number e (partyOf e) (number-of e h)
 
 third-number : (k : ℕ) (j : Party) → k ≡ number j → (k + 2) % 3 ≡ number (third j)
 third-number k party0 e = ap (λ (z : ℕ). (z + 2) % 3) e
@@ -49,7 +43,7 @@ third-number k party2 e = ap (λ (z : ℕ). (z + 2) % 3) e
 
 -- that of the third
 pub number-last : (e : ℕ) → e < 3 → (e + 2) % 3 ≡ number (third (partyOf e))
-number-last e h = third-number e (partyOf e) (own-number e h)
+number-last e h = third-number e (partyOf e) (number-of e h)
 
 -- ---- the share that is shown
 
@@ -86,7 +80,7 @@ module _ (p : Set) (t e m k s : ℕ) (em : m ≡ transcript p) (ek : k ≡ w p) 
   lent-sized h lc ls lx le l n = record {
     commitment = length-take-le (p .digest) commitment (omega (arith, sizes h .digest));
     transcript = length-take-le m said (omega (arith, sizes h .transcript)) ∙ em;
-    seed1 = ap length (seed-part p seeds s es t e (partyOf e) (own-number e n)) ∙ length-seed p seeds t le l (partyOf e);
+    seed1 = ap length (seed-part p seeds s es t e (partyOf e) (number-of e n)) ∙ length-seed p seeds t le l (partyOf e);
     seed2 =
         ap length (seed-part p seeds s es t ((e + 1) % 3) (next (partyOf e)) (number-after e n)) ∙ length-seed p seeds t le l (next (partyOf e));
     share = length-take-le k share (omega (arith, sizes h .width)) ∙ ek;
@@ -97,7 +91,7 @@ module _ (p : Set) (t e m k s : ℕ) (em : m ≡ transcript p) (ek : k ≡ w p) 
       → lent ≡ showing (take (p .digest) commitment) (take (transcript p) said) (seedAt p seeds t (partyOf e)) (seedAt p seeds t (next (partyOf e)))
       (take (w p) share)
   lent-parts n =
-      let a = seed-part p seeds s es t e (partyOf e) (own-number e n) in
+      let a = seed-part p seeds s es t e (partyOf e) (number-of e n) in
       let b = seed-part p seeds s es t ((e + 1) % 3) (next (partyOf e)) (number-after e n) in
       λ i. showing (take (p .digest) commitment) (take (em i) said) (a i) (b i) (take (ek i) share)
 

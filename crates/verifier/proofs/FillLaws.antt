@@ -5,7 +5,7 @@ use mathlib.Core.List.{_++_}
 use Prim.Native.Nat.{ℕ, _+_, _-_, _*_, _≤_, _<_}
 use native.Mathlib.Omega.{arith}
 use lib.Dec.{eqb}
-use borrow.Author.Tests.{eqb-true, eqb-false, eq-eqb}
+use borrow.Author.Tests.{eqb-true, eqb-false}
 use lib.ListN.{length, take, drop, getD, length-append, length-drop}
 use lib.Bits.{bitOr, bitXor}
 use lib.Seq.{length-take-le}
@@ -26,7 +26,7 @@ use Rattle.shape.specs.Header.{valueAt, values}
 use Rattle.shape.specs.Form.{Shown, form, valuesIn, saltIn, shownIn}
 use Rattle.shape.specs.Reading.{readChecks}
 use Rattle.shape.proofs.HeaderLaws.{length-values, getD-values}
-use Rattle.shape.proofs.ReadingLaws.{Sound, sound}
+use Rattle.shape.proofs.ReadingLaws.{sound}
 use Rattle.shape.proofs.RoundTripsProof.{are-values, values-of-form}
 use Rattle.shape.proofs.RoundsLaws.{sizes-zero, sizes-other}
 use Rattle.shape.proofs.ShownLaws.{salt-in-place}

@@ -27,7 +27,7 @@ ghost use Rattle.views.specs.Opened.{openedShare, recomputedOutputs, recomputed
 ghost use Rattle.views.specs.Input.{ciphertext, plaintext, challengeInput, openedOutputs, openedCommitments, verifierFilling};
 ghost use Rattle.room.specs.Room.{sharesAt, commitmentsAt, withRound};
 ghost use Rattle.verifier.specs.Opened.{OpenedAs};
-ghost use Rattle.verifier.specs.Verify.{Given, Verified, lengthChecks, verdictChecks, firstBlock};
+ghost use Rattle.verifier.specs.Verify.{Verified, lengthChecks, verdictChecks, firstBlock};
 use answers::Refusal;
 use bits::Block;
 use challenge::Filled;

@@ -1,5 +1,5 @@
 -- Rows of gates as the bytes of a transcript, and back.
-use mathlib.Core.Path.{_≡_, sym, ap, _∙_}
+use mathlib.Core.Path.{_≡_, ap, _∙_}
 use mathlib.Core.Logic.{⊎-elim}
 use Prim.Native.Nat.{ℕ, zero, suc, _+_, _*_, _/_, _%_, _<_, _≤_}
 use native.Mathlib.Nat.{mul-comm, mul-le-mul-right, suc-mul, zero-mul, mod-lt, le-div-iff-mul-le}

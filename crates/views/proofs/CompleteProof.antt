@@ -2,7 +2,7 @@
 use mathlib.Core.Path.{_≡_, refl, sym, ap, _∙_}
 use Prim.Native.Nat.{ℕ, _*_, _<_}
 use Rattle.slices.specs.Slices.{Bytes}
-use Rattle.bits.specs.Bits.{Bits, Agree, upTo}
+use Rattle.bits.specs.Bits.{Bits, Agree}
 use Rattle.bits.specs.Bytes.{bitsOf, bytesOf}
 use Rattle.bits.specs.Rows.{Rows}
 use Rattle.bits.proofs.BitsLaws.{xor-rules, upTo-in, ⊕-at}
@@ -11,16 +11,15 @@ use Rattle.sets.specs.declared.Set.{Set}
 use Rattle.circuit.specs.Lowmc.{Cipher, encryption}
 use Rattle.circuit.specs.Round.{Party, party0, party1, party2, next, transcript}
 use Rattle.circuit.specs.RoundTheorems.{xor3, Opened, Recomputed, OpeningRecomputes}
-use Rattle.circuit.specs.Tapes.{gateBits, tapeShare}
+use Rattle.circuit.specs.Tapes.{tapeShare}
 use Rattle.circuit.proofs.LowmcLaws.{encryption-cong}
 use Rattle.circuit.proofs.OpeningLaws.{opening-recomputes}
 use Rattle.round.specs.Inputs.{inputShare}
-use Rattle.round.proofs.InputsLaws.{shares-xor}
 use Rattle.hashing.specs.Hashing.{commitment}
 use Rattle.shape.specs.Form.{Shown}
 use Rattle.views.specs.Signed.{shares, shareBits, gateRows, transcripts, outputs, tapes, commitments, shown}
 use Rattle.views.specs.Opened.{share₁, share₂, opening, recomputedTranscript, recomputedOutputs, recomputedCommitments}
-use Rattle.views.specs.Complete.{Regained, RoundComplete}
+use Rattle.views.specs.Complete.{RoundComplete}
 use Rattle.views.proofs.PartiesLaws.{at-each}
 use Rattle.views.proofs.BytesOfRows.{rows-of-bytes, bytes-of-rows}
 

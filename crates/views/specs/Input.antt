@@ -1,7 +1,7 @@
 -- The challenge's input: all output shares by round and party, then all commitments, salt, pk, M.
 use mathlib.Core.List.{_++_}
 use Prim.Native.Nat.{ℕ}
-use lib.ListN.{take, drop}
+use lib.ListN.{getD, take, drop}
 use Rattle.slices.specs.Slices.{Bytes, joined}
 use Rattle.sets.specs.declared.Set.{Set}
 use Rattle.sets.specs.Lengths.{w}
@@ -9,9 +9,8 @@ use Rattle.circuit.specs.Lowmc.{Cipher}
 use Rattle.circuit.specs.Round.{Party}
 use Rattle.shape.specs.Form.{valuesIn, saltIn, shownIn}
 use Rattle.views.specs.Parties.{partyOf, three}
-use Rattle.views.specs.Signed.{seedAt, saltAt, tapes, outputs, commitments, shown}
+use Rattle.views.specs.Signed.{seedAt, saltAt, tapes, outputs, commitments}
 use Rattle.views.specs.Opened.{recomputedOutputs, recomputedCommitments}
-use lib.ListN.{getD}
 
 -- a public key is ciphertext C, then plaintext p
 abbrev pub ciphertext : Set → (public : Bytes) → Bytes

@@ -3,7 +3,6 @@ use mathlib.Core.Path.{refl, sym}
 use lib.Seq.{length-take-le}
 use Rattle.hashing.proofs.HashingLaws.{digest-fits}
 use Rattle.room.proofs.RoomLaws.{front-of}
-use borrow.Author.Needs.{needs}
 use Rattle.room.proofs.committed.Statement.{statement}
 use Rattle.room.proofs.committed.Tie as tie
 

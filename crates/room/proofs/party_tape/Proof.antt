@@ -1,6 +1,5 @@
 -- `room::party_tape` meets its contract.
 use mathlib.Core.Path.{sym, ap₂, _∙_}
-use Prim.Native.Nat.{ℕ}
 use native.Mathlib.Omega.{arith}
 use lib.Seq.{length-take-le}
 use Rattle.hashing.specs.Hashing.{tape}

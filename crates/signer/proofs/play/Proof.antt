@@ -9,8 +9,7 @@ use Rattle.circuit.specs.Round.{party0, party1, party2}
 use Rattle.lowmc.specs.Lent.{cipherOf}
 use Rattle.views.specs.Signed.{seedAt, saltAt, tapes}
 use Rattle.views.specs.Input.{plaintext}
-use Rattle.room.proofs.RoomLaws.{take-as}
-use Rattle.signer.proofs.SeedLaws.{rest-as}
+use Rattle.room.proofs.RoomLaws.{take-as, rest-as}
 use Rattle.signer.proofs.PlayLaws.{traced-as, played-over}
 use borrow.Author.Needs.{needs}
 use Rattle.signer.proofs.play.Statement.{statement}

@@ -4,7 +4,7 @@ use Rattle.bits.specs.Bytes.{bitsOf}
 use Rattle.lowmc.specs.Lent.{cipherOf}
 use Rattle.lowmc.proofs.LentLaws.{block-small}
 use Rattle.views.specs.Input.{plaintext}
-use Rattle.signer.proofs.SeedLaws.{rest-as}
+use Rattle.room.proofs.RoomLaws.{rest-as}
 use Rattle.signer.proofs.PlayLaws.{traced-as}
 use Rattle.signer.proofs.SignLaws.{plaintext-small}
 use borrow.Author.Needs.{needs}

@@ -1,8 +1,7 @@
 -- `verifier::fill` meets its contract.
-use mathlib.Core.Path.{_≡_, refl, sym, ap, _∙_}
+use mathlib.Core.Path.{_≡_}
 use Prim.Native.Nat.{_≤_, _<_, _-_}
 use native.Mathlib.Omega.{arith}
-use Rattle.slices.specs.Slices.{Bytes}
 use Rattle.lowmc.specs.Lent.{cipherOf}
 use Rattle.shape.specs.Form.{form}
 use Rattle.shape.proofs.ReadingLaws.{sound}
