@@ -1,8 +1,9 @@
-# make demo: the main job. make test: everything that is proved and tested. make bench: time and stack.
+# make demo: the main job, on a small package or with PACKAGE=file on a file. make test: everything that is proved and tested.
+# make bench: time and stack.
 .PHONY: demo test bench fmt clean
 
 demo:
-	@hosts/demo
+	@hosts/demo $(if $(PACKAGE),"$(PACKAGE)")
 
 test:
 	@bash .ci/run
