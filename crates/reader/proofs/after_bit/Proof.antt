@@ -1,0 +1,17 @@
+-- `reader::after_bit` meets its contract: the branch's test says which case of `afterBit` holds.
+use borrow.Author.Tests.{lt-ltb, le-ltb}
+use borrow.Author.Needs.{needs}
+use Rattle.reader.proofs.after_bit.Statement.{statement}
+use Rattle.reader.proofs.after_bit.Tie as tie
+
+add-result : tie.Need-add-result
+add-result c = search needs
+
+returns : tie.Need-returns
+returns c = simp (lt-ltb _ _ (c .if1 .taken))
+
+returns-2 : tie.Need-returns-2
+returns-2 c = simp (le-ltb _ _ (c .if1 .left))
+
+pub after-bit-spec : {M : Type 1} → statement M
+after-bit-spec = tie.close (tie.spec add-result returns returns-2)
