@@ -1,4 +1,4 @@
--- Laws of what is recomputed from an opening: its lengths, and what is hashed for it.
+-- Laws of what is recomputed from an opening: the length of a share, and what is hashed for it.
 use mathlib.Core.Path.{_≡_}
 use mathlib.Core.List.{List, List·Memᴰ, Memᴰ·append-left, Memᴰ·append-right}
 use Prim.Native.Nat.{ℕ}
@@ -7,15 +7,11 @@ use Rattle.slices.specs.Slices.{Bytes}
 use Rattle.bits.specs.Bytes.{width}
 use Rattle.bits.proofs.BytesLaws.{length-bytesOf}
 use Rattle.sets.specs.declared.Set.{Set}
-use Rattle.sets.specs.Sets.{IsSet}
 use Rattle.circuit.specs.Lowmc.{Cipher}
 use Rattle.circuit.specs.Round.{Party, party0, party1, party2, next}
 use Rattle.circuit.specs.Tapes.{tapeShare}
-use Rattle.hashing.specs.Hashing.{commitment}
-use Rattle.challenge.proofs.BlocksLaws.{length-h}
 use Rattle.shape.specs.Form.{Shown}
-use Rattle.views.specs.Opened.{openedShare, share₁, share₂, recomputedTranscript, recomputedOutputs, recomputedCommitments}
-use Rattle.views.proofs.PartiesLaws.{all-three}
+use Rattle.views.specs.Opened.{openedShare, share₁, share₂, recomputedTranscript, recomputedOutputs}
 use Rattle.demands.specs.Hashed.{Hashed, hashedFor, hashedBy}
 
 pub length-share : (C : Cipher) (j : Party) (tape given : Bytes) → length given ≡ width (C .n) → length (openedShare C j tape given) ≡ width (C .n)
@@ -25,16 +21,6 @@ length-share C party1 tape given l = length-bytesOf (C .n) _
 length-share C party2 tape given l = l
 
 module _ (p : Set) (C : Cipher) (salt : Bytes) (t : ℕ) (e : Party) (u : Shown) (block cipher : Bytes) where
-  pub length-outputs : (j : Party) → length (recomputedOutputs p C salt t e u block cipher j) ≡ width (C .n)
-  unfolding recomputedOutputs
-  length-outputs =
-      all-three (λ (l : Bytes). length l ≡ width (C .n)) e (length-bytesOf (C .n) _) (length-bytesOf (C .n) _) (length-bytesOf (C .n) _)
-
-  pub length-commitments : IsSet p → length (u .commitment) ≡ p .digest
-      → (j : Party) → length (recomputedCommitments p C salt t e u block cipher j) ≡ p .digest
-  unfolding recomputedCommitments commitment
-  length-commitments q l = all-three (λ (l : Bytes). length l ≡ p .digest) e (length-h q 0 _) (length-h q 0 _) l
-
   -- what is hashed for party e, and for party e+1
   abbrev hashed₁ : List Hashed
   hashed₁ =

@@ -14,8 +14,8 @@ use Rattle.shape.specs.Form.{Sized, saltIn, slotAt, shownIn}
 use Rattle.shape.proofs.PartLaws.{length-part}
 use Rattle.shape.proofs.FormLaws.{slot-within}
 use Rattle.views.specs.Input.{byRound, filling, challengeInput, openedOutputs, openedCommitments, verifierFilling}
+use Rattle.room.proofs.LengthLaws.{recomputed-output, recomputed-commitment}
 use Rattle.demands.proofs.JoinedLaws.{front, back, Alike, length-byRound, same-byRound}
-use Rattle.demands.proofs.OpenedLaws.{length-outputs, length-commitments}
 
 module _ (p : Set) (x : Bytes) (h : length x ≡ unpackedLength p) where
   length-salt : length (saltIn p x) ≡ salt
@@ -49,12 +49,12 @@ module _ {p : Set} (q : IsSet p) (C : Cipher) (public message x y : Bytes) (hx :
   comms = openedCommitments p C public
 
   outputs-alike : Alike (p .t) (outs x) (outs y)
-  outputs-alike i l j = length-outputs p C _ i _ _ _ _ j ∙ sym (length-outputs p C _ i _ _ _ _ j)
+  outputs-alike i l j = recomputed-output p C _ i _ _ _ _ j ∙ sym (recomputed-output p C _ i _ _ _ _ j)
 
   commitments-alike : Alike (p .t) (comms x) (comms y)
   commitments-alike i l j =
-      length-commitments p C _ i _ _ _ _ q (sized-in p x hx i l .commitment) j
-      ∙ sym (length-commitments p C _ i _ _ _ _ q (sized-in p y hy i l .commitment) j)
+      recomputed-commitment p C _ i _ _ _ _ q (sized-in p x hx i l .commitment) j
+      ∙ sym (recomputed-commitment p C _ i _ _ _ _ q (sized-in p y hy i l .commitment) j)
 
   fillings-alike : length (verifierFilling p C public x) ≡ length (verifierFilling p C public y)
   unfolding verifierFilling filling

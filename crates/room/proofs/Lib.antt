@@ -1,3 +1,4 @@
 pub mod RoomLaws
 pub mod HeldLaws
 pub mod AfterLaws
+pub mod LengthLaws

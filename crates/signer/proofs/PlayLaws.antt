@@ -1,10 +1,9 @@
 -- Laws of a round that is played: which party a number names, and what it has on words and in bytes.
 use mathlib.Core.Path.{_≡_, refl, sym, ap, _∙_, subst}
 use mathlib.Core.Bool.{false}
-use mathlib.Core.List.{_++_}
 use Prim.Native.Nat.{ℕ, zero, suc, _*_, _≤_, _<_}
 use native.Mathlib.Omega.{arith}
-use lib.ListN.{length, length-append}
+use lib.ListN.{length}
 use Rattle.slices.specs.Slices.{Bytes}
 use Rattle.bits.specs.Bits.{Bits, _⊻_, _⊕_}
 use Rattle.bits.specs.Bytes.{bitsOf, bytesOf, width}
@@ -25,6 +24,7 @@ use Rattle.hashing.specs.Hashing.{commitment}
 use Rattle.challenge.proofs.BlocksLaws.{length-h}
 use Rattle.views.specs.Parties.{three}
 use Rattle.views.specs.Signed.{shares, shareBits, gateRows, outputs, transcripts, tapes, commitments}
+use Rattle.room.proofs.LengthLaws.{length-three}
 use Rattle.signer.specs.declared.Played.{Played}
 use Rattle.signer.specs.Played.{PlayedAs}
 
@@ -119,11 +119,6 @@ unfolding commitments transcripts
 commitment-as p C salt t seeds secret block r k h es ex ey e =
     e ∙ λ i. commitment p (es i) ((ap (bytesOf (C .n)) ex ∙ h .inputs k) i) (transcripts C secret (tapes p C salt t seeds) block k)
     ((ap (bytesOf (C .n)) ey ∙ h .outputs k) i)
-
--- three strings of m bytes
-length-three : (f : Party → Bytes) (m : ℕ) → ((j : Party) → length (f j) ≡ m) → length (three f) ≡ 3 * m
-length-three f m h =
-    omega (arith, length-append (f party0) (f party1 ++ f party2), length-append (f party1) (f party2), h party0, h party1, h party2)
 
 pub length-outputs : (C : Cipher) (secret : Bytes) (tapes : Party → Bytes) (block : Bytes) → length (three (outputs C secret tapes block)) ≡ 3 * width (C .n)
 unfolding outputs

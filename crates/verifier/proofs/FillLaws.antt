@@ -1,27 +1,24 @@
 -- Laws of the rounds that a signature shows: their parts in place, and what is recomputed from them as the definitions have it.
 use mathlib.Core.Path.{_≡_, refl, sym, ap, ap₂, _∙_, subst}
 use mathlib.Core.Bool.{Bool, true, false}
-use mathlib.Core.List.{_++_}
 use Prim.Native.Nat.{ℕ, _+_, _-_, _*_, _≤_, _<_}
 use native.Mathlib.Omega.{arith}
 use lib.Dec.{eqb}
 use borrow.Author.Tests.{eqb-true, eqb-false}
-use lib.ListN.{length, take, drop, getD, length-append, length-drop}
+use lib.ListN.{length, take, drop, getD, length-drop}
 use lib.Bits.{bitOr, bitXor}
 use lib.Seq.{length-take-le}
 use Rattle.slices.specs.Slices.{Bytes, part, over, equal}
 use Rattle.slices.proofs.EqualLaws.{equal-more, equal-all}
 use Rattle.bits.specs.Bytes.{width}
-use Rattle.bits.proofs.BytesLaws.{length-bytesOf}
 use Rattle.sets.specs.declared.Set.{Set}
 use Rattle.sets.specs.Sets.{IsSet}
 use Rattle.sets.specs.Lengths.{w, salt, header, roomLength}
 use Rattle.answers.specs.declared.Refusal.the-variants.{Fine}
 use Rattle.answers.specs.Answers.{first}
 use Rattle.circuit.specs.Lowmc.{Cipher}
-use Rattle.circuit.specs.Round.{Party, party0, party1, party2}
+use Rattle.circuit.specs.Round.{Party, party0}
 use Rattle.hashing.specs.Hashing.{commitment}
-use Rattle.challenge.proofs.BlocksLaws.{length-h}
 use Rattle.shape.specs.Header.{valueAt, values}
 use Rattle.shape.specs.Form.{Shown, form, valuesIn, saltIn, shownIn}
 use Rattle.shape.specs.Reading.{readChecks}
@@ -36,9 +33,9 @@ use Rattle.parts.specs.Places.{partsAt, Located, showing}
 use Rattle.views.specs.Parties.{partyOf, three}
 use Rattle.views.specs.Opened.{opening, recomputedTranscript, recomputedOutputs, recomputedCommitments}
 use Rattle.views.specs.Input.{plaintext, ciphertext, openedOutputs, openedCommitments, filling}
-use Rattle.views.proofs.PartiesLaws.{all-three}
 use Rattle.room.specs.Room.{withRound}
 use Rattle.room.proofs.RoomLaws.{sizes}
+use Rattle.room.proofs.LengthLaws.{length-three, recomputed-output, recomputed-commitment}
 use Rattle.room.proofs.HeldLaws.{Held, held-more, held-all, length-filling}
 
 -- ---- the parts of a round in place
@@ -117,27 +114,13 @@ module _ (p : Set) (C : Cipher) (sa : Bytes) (t : ℕ) (block cipher : Bytes) wh
 
 -- ---- lengths
 
-length-three : (f : Party → Bytes) (n : ℕ) → ((j : Party) → length (f j) ≡ n) → length (three f) ≡ 3 * n
-length-three f n h =
-    let a = h party0 in
-    let b = h party1 in
-    let c = h party2 in
-    omega (arith, length-append (f party0) (f party1 ++ f party2), length-append (f party1) (f party2), a, b, c)
-
 module _ {p : Set} (i : IsSet p) (C : Cipher) (sa : Bytes) (t : ℕ) (e : Party) (u : Shown) (block cipher : Bytes) where
-  each-output : (j : Party) → length (recomputedOutputs p C sa t e u block cipher j) ≡ width (C .n)
-  unfolding recomputedOutputs
-  each-output = all-three (λ (l : Bytes). length l ≡ width (C .n)) e (length-bytesOf _ _) (length-bytesOf _ _) (length-bytesOf _ _)
+  length-outputs : length (three (recomputedOutputs p C sa t e u block cipher)) ≡ 3 * width (C .n)
+  length-outputs = length-three (recomputedOutputs p C sa t e u block cipher) (width (C .n)) (recomputed-output p C sa t e u block cipher)
 
-  pub length-outputs : length (three (recomputedOutputs p C sa t e u block cipher)) ≡ 3 * width (C .n)
-  length-outputs = length-three (recomputedOutputs p C sa t e u block cipher) (width (C .n)) each-output
-
-  each-commitment : length (u .commitment) ≡ p .digest → (j : Party) → length (recomputedCommitments p C sa t e u block cipher j) ≡ p .digest
-  unfolding recomputedCommitments commitment
-  each-commitment h = all-three (λ (l : Bytes). length l ≡ p .digest) e (length-h i 0 _) (length-h i 0 _) h
-
-  pub length-commitments : length (u .commitment) ≡ p .digest → length (three (recomputedCommitments p C sa t e u block cipher)) ≡ 3 * p .digest
-  length-commitments h = length-three (recomputedCommitments p C sa t e u block cipher) (p .digest) (each-commitment h)
+  length-commitments : length (u .commitment) ≡ p .digest → length (three (recomputedCommitments p C sa t e u block cipher)) ≡ 3 * p .digest
+  length-commitments h =
+      length-three (recomputedCommitments p C sa t e u block cipher) (p .digest) (recomputed-commitment p C sa t e u block cipher i h)
 
 -- ---- a round as the definitions have it, read off the unpacked form
 
