@@ -39,10 +39,10 @@ static void reject(const struct command *command, const char *what, const char *
     exit(BAD);
 }
 
-/* What was printed must have gone out whole. */
-static void end(void)
+/* The exit status if nothing went wrong: what was printed must have gone out whole. */
+static int status(void)
 {
-    exit(fflush(stdout) == 0 ? 0 : BAD);
+    return fflush(stdout) == 0 ? 0 : BAD;
 }
 
 static void help(void)
@@ -58,7 +58,7 @@ static void help(void)
            "The set N is 1, 2 or 3, or by its name picnic-L1-FS, picnic-L3-FS or picnic-L5-FS. The tables are drawn anew,\n"
            "or read from a file that picnic tables wrote. The exit status is 0 for done or valid, 1 for what the library\n"
            "refuses, 2 for bad usage and for files that cannot be read or written.\n");
-    end();
+    exit(status());
 }
 
 static const struct command *find_command(const char *word)
@@ -128,12 +128,12 @@ int main(int argc, char **argv)
         help();
     if (strcmp(word, "--version") == 0) {
         puts("picnic " VERSION);
-        end();
+        return status();
     }
     if (argc < 2)
         reject(NULL, "the command is missing", "");
     command = find_command(word);
     take_words(command, &job, argv + 2);
     command->run(&job);
-    end();
+    return status();
 }
