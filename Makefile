@@ -1,6 +1,6 @@
 # make demo: the main job, on a small package or with PACKAGE=file on a file. make test: everything that is proved and tested.
-# make bench: time and stack.
-.PHONY: demo test bench fmt clean
+# make bench: time and stack. make vectors: our own known answers, in target/vectors.
+.PHONY: demo test bench vectors fmt clean
 
 demo:
 	@hosts/demo $(if $(PACKAGE),"$(PACKAGE)")
@@ -10,6 +10,9 @@ test:
 
 bench:
 	@hosts/bench
+
+vectors:
+	@hosts/vectors target/vectors
 
 fmt:
 	rt fmt
