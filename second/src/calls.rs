@@ -276,6 +276,28 @@ impl Sheet {
     }
 }
 
+/// A file of calls as it is made: which function it is of, the calls so far,
+/// and the source of their inputs.
+pub struct Maker<Function> {
+    /// The function.
+    pub function: Function,
+    /// The calls.
+    pub sheet: Sheet,
+    /// The source.
+    pub noise: Noise,
+}
+
+impl<Function> Maker<Function> {
+    /// No calls, and a source that starts at a seed.
+    pub fn new(function: Function, seed: u64) -> Self {
+        Maker {
+            function,
+            sheet: Sheet::default(),
+            noise: Noise::new(seed),
+        }
+    }
+}
+
 /// Puts bytes behind the pieces, if there are any, and takes them away.
 fn push_hex(pieces: &mut Vec<Piece>, bytes: &mut Vec<u8>) {
     if !bytes.is_empty() {
@@ -377,6 +399,26 @@ mod tests {
             seen.insert((set.number, length > start.len()));
         }
         assert_eq!(seen.len(), 2 * SETS.len());
+    }
+
+    /// Checks that the room, which is this argument, is left zero by just the
+    /// calls that got as far as using it, and gives how many calls end in each
+    /// refusal, by its number.
+    pub fn check_rooms(sheet: &Sheet, room: usize) -> [usize; 13] {
+        let mut counts = [0; 13];
+        for call in sheet.calls() {
+            let refusal = (call.answer >> 32) as usize;
+            counts[refusal] += 1;
+            let Argument::Written { length, start } = &call.arguments[room] else {
+                panic!("{}: no room", call.label);
+            };
+            let used = [0, 8, 12].contains(&refusal);
+            assert_eq!(!start.is_empty(), used, "{}", call.label);
+            let bytes = sheet.bytes(start);
+            assert!(bytes.len() <= *length, "{}", call.label);
+            assert!(bytes.iter().all(|&byte| byte == 0), "{}", call.label);
+        }
+        counts
     }
 
     fn labelled(label: &str) -> Call {

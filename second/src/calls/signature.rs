@@ -102,12 +102,8 @@ fn outcome(function: Function, case: &Case) -> Outcome {
     function.written(set, &case.given.bytes)
 }
 
-/// The calls and the source of their inputs.
-struct Maker {
-    function: Function,
-    sheet: Sheet,
-    noise: Noise,
-}
+/// The calls of one of them.
+type Maker = super::Maker<Function>;
 
 impl Maker {
     /// Defines a signature of noise and its unpacked form, and gives its
@@ -301,11 +297,7 @@ fn faults(function: Function, set: &Set, values: &[u8]) -> Vec<Wrong> {
 
 /// The file of calls of a function.
 pub fn sheet(function: Function) -> Sheet {
-    let mut maker = Maker {
-        function,
-        sheet: Sheet::default(),
-        noise: Noise::new(SEED),
-    };
+    let mut maker = Maker::new(function, SEED);
     maker.examples();
     for set in &SETS {
         maker.set(set);
