@@ -1,6 +1,7 @@
 # make demo: the main job, on a small package or with PACKAGE=file on a file. make test: everything that is proved and tested.
 # make bench: time and stack. make vectors: our own known answers, in target/vectors.
-.PHONY: demo test bench vectors fmt clean
+# make soak: noisy calls for a minute, or with SECONDS=n for so long, and with SEED=n from that seed on.
+.PHONY: demo test bench vectors soak fmt clean
 
 demo:
 	@hosts/demo $(if $(PACKAGE),"$(PACKAGE)")
@@ -13,6 +14,9 @@ bench:
 
 vectors:
 	@hosts/vectors target/vectors
+
+soak:
+	@hosts/soak $(if $(SECONDS),$(SECONDS),60) $(SEED)
 
 fmt:
 	rt fmt

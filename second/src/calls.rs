@@ -5,6 +5,7 @@
 pub mod challenge;
 pub mod damaged;
 pub mod faults;
+pub mod fuzz;
 pub mod hash;
 pub mod lowmc;
 pub mod published;
@@ -197,6 +198,11 @@ impl Sheet {
             bytes,
         });
         Piece::Named(name.into())
+    }
+
+    /// How many names there are.
+    pub fn names(&self) -> usize {
+        self.defined.len()
     }
 
     /// The bytes of this name.

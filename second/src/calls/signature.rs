@@ -40,7 +40,7 @@ impl Function {
     }
 
     /// Bytes that the output must have.
-    fn needed(self, set: &Set) -> usize {
+    pub fn needed(self, set: &Set) -> usize {
         match self {
             Function::Read => set.unpacked_bytes(),
             Function::Write => set.longest_signature(),
@@ -85,12 +85,15 @@ fn values(mix: &str, set: &Set, noise: &mut Noise) -> Vec<u8> {
 }
 
 /// The arguments of a call.
-struct Case {
-    set: u64,
-    given: Lent,
-    output: usize,
+pub struct Case {
+    /// The number of the set.
+    pub set: u64,
+    /// The string.
+    pub given: Lent,
+    /// The length of the output.
+    pub output: usize,
     /// The defined string that what is written is held against.
-    written: String,
+    pub written: String,
 }
 
 /// What the call must do.
@@ -136,21 +139,7 @@ impl Maker {
 
     /// Adds the call of a case, and gives its outcome.
     fn add(&mut self, label: String, case: Case) -> Outcome {
-        let outcome = outcome(self.function, &case);
-        let function = self.function.name();
-        let arguments = vec![Argument::Number(case.set), self.sheet.input(&case.given)];
-        let name = case.written;
-        let pieces = |bytes| self.sheet.pieces(&Lent { name, bytes });
-        let call = Call::with_pieces(
-            format!("{}-{label}", function.trim_start_matches("picnic_")),
-            function,
-            arguments,
-            case.output,
-            outcome.clone(),
-            pieces,
-        );
-        self.sheet.add(call);
-        outcome
+        add(&mut self.sheet, self.function, label, case)
     }
 
     /// What is not damaged, with outputs of just the needed length and longer.
@@ -275,6 +264,24 @@ impl Maker {
             }
         }
     }
+}
+
+/// Adds the call of a case to a sheet, and gives its outcome.
+pub fn add(sheet: &mut Sheet, function: Function, label: String, case: Case) -> Outcome {
+    let outcome = outcome(function, &case);
+    let arguments = vec![Argument::Number(case.set), sheet.input(&case.given)];
+    let name = case.written;
+    let pieces = |bytes| sheet.pieces(&Lent { name, bytes });
+    let call = Call::with_pieces(
+        format!("{}-{label}", function.name().trim_start_matches("picnic_")),
+        function.name(),
+        arguments,
+        case.output,
+        outcome.clone(),
+        pieces,
+    );
+    sheet.add(call);
+    outcome
 }
 
 /// Something wrong with the arguments.

@@ -38,7 +38,8 @@ pub type Verdict = Result<(), Refusal>;
 /// The arguments of a call.
 #[derive(Clone)]
 pub struct Case {
-    shared: Shared,
+    /// What it shares with signing.
+    pub shared: Shared,
     /// The signature.
     pub signature: Lent,
 }
@@ -66,7 +67,7 @@ impl Maker {
         let held = held.expect("nothing is wrong with it");
         let signature = pair.shared.statement(&held).sign(&pair.secret, &seeds);
         let signature = signature.expect("the keys are a pair and the limit is high");
-        let name = format!("signature-{}-{}", set.number, self.sheet.calls().len());
+        let name = format!("signature-{}-{}", set.number, self.sheet.names());
         self.sheet.define(&name, vec![Piece::Hex(signature)]);
         Case {
             shared: pair.shared,
