@@ -1,7 +1,8 @@
 # make demo: the main job, on a small package or with PACKAGE=file on a file. make test: everything that is proved and tested.
 # make bench: time and stack. make vectors: our own known answers, in target/vectors.
+# make secrets: no branch and no address depends on a secret.
 # make soak: noisy calls for a minute, or with SECONDS=n for so long, and with SEED=n from that seed on.
-.PHONY: demo test bench vectors soak fmt clean
+.PHONY: demo test bench vectors secrets soak fmt clean
 
 demo:
 	@hosts/demo $(if $(PACKAGE),"$(PACKAGE)")
@@ -14,6 +15,9 @@ bench:
 
 vectors:
 	@hosts/vectors target/vectors
+
+secrets:
+	@hosts/secrets
 
 soak:
 	@hosts/soak $(if $(SECONDS),$(SECONDS),60) $(SEED)
