@@ -1,5 +1,5 @@
-/* Makes a call four times, with some secrets, with all their bits turned, and so once more, for trace.c to compare: traced CALL SET TABLES
-   LIMIT. The slices lie where they are each time. */
+/* Makes a call four times, with some secrets, with all their bits turned, and so once more, for trace.c to compare: traced
+   CALL SET TABLES LIMIT. The slices lie where they are each time. */
 #include <stdio.h>
 #include <stdlib.h>
 
