@@ -14,7 +14,7 @@ use super::signature::{self, Function};
 use super::statement::{self, define_tables, Shared};
 use super::strings::of_noise;
 use super::verify::{self, Maker};
-use super::{Lent, Piece, Sheet, NO_SETS};
+use super::{random_piece, Piece, Sheet, NO_SETS};
 use crate::noise::Noise;
 use crate::sets::{Set, SETS};
 use crate::signature::Signature;
@@ -35,27 +35,37 @@ type Corpus = [Vec<Source>; 3];
 /// The tables under which each set has a valid signature to start from.
 const VALID: [&[&str]; 3] = [&["real", "noise", "noise"], &["noise"], &["noise"]];
 
-/// Defines both forms of a signature, which is of noise or, as `valid` has it,
-/// of what is shared.
-fn source(maker: &mut Maker, set: &'static Set, shared: &Shared, valid: Option<Lent>) -> Source {
-    let signature = match &valid {
-        Some(valid) => Signature::read(set, &valid.bytes).expect("it is valid"),
-        None => {
-            let values = (0..set.t).map(|_| maker.noise.between(0, 2) as u8);
-            of_noise(set, values.collect(), &mut maker.noise)
-        }
-    };
-    let mut define = |what: &str, bytes| {
-        let name = format!("{what}-{}-{}", set.number, maker.sheet.names());
-        maker.sheet.define(&name, vec![Piece::Hex(bytes)]);
-        name
-    };
+/// Defines a byte string of a set.
+fn define(sheet: &mut Sheet, what: &str, set: &Set, bytes: Vec<u8>) -> String {
+    let name = format!("{what}-{}-{}", set.number, sheet.names());
+    sheet.define(&name, vec![Piece::Hex(bytes)]);
+    name
+}
+
+/// A valid signature of a random message, over tables of this kind.
+fn valid(maker: &mut Maker, set: &'static Set, kind: &str) -> Source {
+    let length = maker.noise.between(1, 400);
+    let case = maker.case(kind, set, length);
+    let signature = Signature::read(set, &case.signature.bytes).expect("it is valid");
     Source {
         set,
-        packed: define("packed", signature.bytes()),
-        unpacked: define("unpacked", signature.unpacked(set)),
+        shared: case.shared,
+        packed: case.signature.name,
+        unpacked: define(&mut maker.sheet, "unpacked", set, signature.unpacked(set)),
         signature,
-        shared: shared.clone(),
+    }
+}
+
+/// A signature of noise, beside what it is not the signature of.
+fn of_nothing(maker: &mut Maker, set: &'static Set, shared: Shared) -> Source {
+    let values = (0..set.t).map(|_| maker.noise.between(0, 2) as u8);
+    let signature = of_noise(set, values.collect(), &mut maker.noise);
+    Source {
+        set,
+        shared,
+        packed: define(&mut maker.sheet, "packed", set, signature.bytes()),
+        unpacked: define(&mut maker.sheet, "unpacked", set, signature.unpacked(set)),
+        signature,
     }
 }
 
@@ -63,14 +73,10 @@ fn corpus(maker: &mut Maker) -> Corpus {
     std::array::from_fn(|i| {
         let set = &SETS[i];
         define_tables(&mut maker.sheet, set, &mut maker.noise);
-        let mut sources = vec![];
-        for kind in VALID[i] {
-            let length = maker.noise.between(1, 400);
-            let case = maker.case(kind, set, length);
-            sources.push(source(maker, set, &case.shared, Some(case.signature)));
-        }
+        let kinds = VALID[i].iter();
+        let mut sources: Vec<Source> = kinds.map(|kind| valid(maker, set, kind)).collect();
         let shared = sources[0].shared.clone();
-        sources.push(source(maker, set, &shared, None));
+        sources.push(of_nothing(maker, set, shared));
         sources
     })
 }
@@ -80,18 +86,18 @@ fn any<'a, T>(things: &'a [T], noise: &mut Noise) -> &'a T {
     &things[noise.between(0, things.len() - 1)]
 }
 
-/// A signature, changed by its fields up to twice, and the names of the
-/// changes.
-fn changed(sources: &[Source], noise: &mut Noise) -> (usize, Signature, String) {
-    let (chosen, mut names) = (noise.between(0, sources.len() - 1), String::new());
-    let mut signature = sources[chosen].signature.clone();
+/// A signature to start from, what it is after up to two changes of its
+/// fields, and the names of the changes.
+fn changed<'a>(sources: &'a [Source], noise: &mut Noise) -> (&'a Source, Signature, String) {
+    let (source, mut names) = (any(sources, noise), String::new());
+    let mut signature = source.signature.clone();
     for _ in 0..noise.between(0, 2) {
         let (name, change) = any(&FIELD_CHANGES, noise);
         let other = &any(sources, noise).signature;
-        change(sources[chosen].set, &mut signature, other, noise);
+        change(source.set, &mut signature, other, noise);
         names += &format!("-{name}");
     }
-    (chosen, signature, names)
+    (source, signature, names)
 }
 
 /// Changes bytes that start with so many of values, every third time, and
@@ -105,8 +111,8 @@ fn change_bytes(bytes: &mut Vec<u8>, head: usize, noise: &mut Noise) -> String {
     format!("-{name}")
 }
 
-/// Changes what a signature is verified with, every third time: something
-/// that is refused, or another limit, room, message, key or table that is not.
+/// Changes what a signature is verified with, now and then: by something that
+/// is refused, or another limit, room, message, key or table.
 fn change_shared(shared: &mut Shared, set: &Set, noise: &mut Noise) {
     let turn = |bytes: &mut Vec<u8>, noise: &mut Noise| {
         let place = noise.between(0, bytes.len() - 1);
@@ -121,7 +127,7 @@ fn change_shared(shared: &mut Shared, set: &Set, noise: &mut Noise) {
         1 => shared.limit = noise.between(1, 64) as u64,
         2 => shared.limit = noise.between(1, 5) as u64,
         3 => shared.room += noise.between(1, 500),
-        4 => shared.message = super::random_piece(noise, set.width()),
+        4 => shared.message = random_piece(noise, set.width()),
         5 => turn(&mut shared.public, noise),
         6 => turn(&mut shared.tables.keys.bytes, noise),
         7 => turn(&mut shared.tables.layers.bytes, noise),
@@ -131,8 +137,7 @@ fn change_shared(shared: &mut Shared, set: &Set, noise: &mut Noise) {
 }
 
 fn add_verify(maker: &mut Maker, sources: &[Source], label: &str) {
-    let (chosen, signature, names) = changed(sources, &mut maker.noise);
-    let source = &sources[chosen];
+    let (source, signature, names) = changed(sources, &mut maker.noise);
     let mut case = verify::Case {
         shared: source.shared.clone(),
         signature: maker.sheet.lend(&source.packed),
@@ -162,8 +167,7 @@ fn other_arguments(function: Function, set: &Set, noise: &mut Noise) -> (u64, us
 }
 
 fn add_form(maker: &mut Maker, function: Function, sources: &[Source], label: &str) {
-    let (chosen, signature, names) = changed(sources, &mut maker.noise);
-    let source = &sources[chosen];
+    let (source, signature, names) = changed(sources, &mut maker.noise);
     let set = source.set;
     let (given, bytes, head, written) = match function {
         Function::Read => {

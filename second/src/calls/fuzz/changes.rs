@@ -320,7 +320,6 @@ mod tests {
         for set in &SETS {
             let mut signature = signature(set, 3);
             for _ in 0..20 {
-                value(set, &mut signature.clone(), &signature, &mut noise);
                 let before = signature.clone();
                 value(set, &mut signature, &before, &mut noise);
                 assert_ne!(signature, before);
