@@ -2,7 +2,11 @@
 # make bench: time and stack. make vectors: our own known answers, in target/vectors.
 # make secrets: no branch and no address depends on a secret.
 # make soak: noisy calls for a minute, or with SECONDS=n for so long, and with SEED=n from that seed on.
-.PHONY: demo test bench vectors secrets soak fmt clean
+# make install: the library, its header, the command and its manual page below PREFIX, and that below DESTDIR if it is given;
+# make uninstall removes them.
+.PHONY: demo test bench vectors secrets soak install uninstall fmt clean
+
+PREFIX = /usr/local
 
 demo:
 	@hosts/demo $(if $(PACKAGE),"$(PACKAGE)")
@@ -21,6 +25,12 @@ secrets:
 
 soak:
 	@hosts/soak $(if $(SECONDS),$(SECONDS),60) $(SEED)
+
+install:
+	@DESTDIR="$(DESTDIR)" hosts/install "$(PREFIX)"
+
+uninstall:
+	@DESTDIR="$(DESTDIR)" hosts/install --remove "$(PREFIX)"
 
 fmt:
 	rt fmt
