@@ -1,6 +1,6 @@
 -- Laws of the product: the count of ones word by word, the word that 64 rows give, and the rows' places.
 use mathlib.Core.Path.{_≡_, refl, sym, ap, ap₂, _∙_}
-use mathlib.Core.Bool.{_&&_}
+use mathlib.Core.Bool.{Bool, _&&_}
 use mathlib.Core.List.{List}
 use Prim.Native.Nat.{ℕ, _+_, _-_, _*_, _%_, _^_, _≤_, _<_}
 use native.Mathlib.Nat.{lt-of-le-of-lt, lt-of-lt-of-le}
@@ -11,12 +11,14 @@ use lib.Count.{ones}
 use lib.ListN.{length, getD, take, drop}
 use lib.Pow.{pow-mono}
 use Rattle.slices.specs.Slices.{Bytes}
-use Rattle.bits.specs.Bits.{_⊻_, Bits, from}
+use Rattle.bits.specs.Bits.{_⊻_, Bits, Agree, from}
 use Rattle.bits.specs.Bytes.{odd, digit, bitsOf, value}
-use Rattle.bits.specs.Words.{listBits, Holds}
+use Rattle.bits.specs.Words.{turned, lowBits, Holds}
+use Rattle.bits.specs.declared.Block.{Block}
 use Rattle.bits.proofs.BitsLaws.{xor-comm, parity-cong, parity-add, upTo-in, upTo-out}
 use Rattle.bits.proofs.NumberLaws.{digit-odd, odd-add, bit-xor, bit-low0, value-lt, digit-le}
-use Rattle.bits.proofs.WordsLaws.{holds-and, holds-at, holds-value, ones-holds, zero-bits}
+use Rattle.bits.proofs.WordsLaws.{holds-and, holds-value, ones-holds, zero-bits}
+use Rattle.bits.proofs.TurnedLaws.{low-at, parity-turned}
 use Rattle.circuit.specs.Matrices.{Matrix, rowParity, product}
 use Rattle.lowmc.specs.Lent.{row}
 use Rattle.lowmc.proofs.LentLaws.{part-long}
@@ -30,13 +32,16 @@ low-sum a b =
     ∙ ap digit (sym (bit-low0 (bitXor a b)) ∙ bit-xor a b 0 ∙ ap₂ _⊻_ (bit-low0 a) (bit-low0 b) ∙ sym (odd-add a b))
     ∙ sym (digit-odd (a + b))
 
--- the ones in word k of a row AND a block
-pub ones-odd : (s : Bytes) (ws : List ℕ) (k x : ℕ) → x < 2 ^ 64 → Holds (from (8 * (8 * k)) (bitsOf s)) x
-    → odd (ones (bitAnd x (getD ws k 0))) ≡ rowParity 64 (from (64 * k) (bitsOf s)) (from (64 * k) (listBits ws))
-unfolding rowParity
-ones-odd s ws k x fits h =
-    ones-holds _ _ (lt-of-le-of-lt (and-le-l x (getD ws k 0)) fits)
-    (holds-and (from (64 * k) (bitsOf s)) (from (64 * k) (listBits ws)) x (getD ws k 0) (λ j l. h j l ∙ ap (bitsOf s) (omega arith)) (holds-at ws k))
+-- the ones in word k of a row AND a block, both with the first byte lowest
+pub ones-odd : (s : Bytes) (v : Block) (k x : ℕ) → x < 2 ^ 64 → Holds (turned (from (8 * (8 * k)) (bitsOf s))) x
+    → odd (ones (bitAnd x (getD (v .words) k 0))) ≡ rowParity 64 (from (64 * k) (bitsOf s)) (from (64 * k) (lowBits v))
+unfolding rowParity turned
+ones-odd s v k x fits h =
+    let f = from (64 * k) (bitsOf s) in
+    let g = from (64 * k) (lowBits v) in
+    ones-holds (λ j. turned f j && turned g j) (bitAnd x (getD (v .words) k 0)) (lt-of-le-of-lt (and-le-l x (getD (v .words) k 0)) fits)
+    (holds-and (turned f) (turned g) x (getD (v .words) k 0) (λ j l. h j l ∙ ap (bitsOf s) (omega arith)) (low-at v k))
+    ∙ parity-turned (λ j. f j && g j)
 
 odd-low : (a b r : ℕ) → r ≡ (a + b) % 2 → odd r ≡ odd a ⊻ odd b
 unfolding odd
@@ -83,20 +88,19 @@ low-digit f g m n a r e o d =
 -- ---- the word that 64 rows give
 
 -- the parity that is computed of a lent row
-pub row-digit-of : (m : Bytes) (g w : ℕ) (x : Bits) (r : ℕ)
-    → r ≡ digit (rowParity (8 * w) (bitsOf (take (g * w + w - g * w) (drop (g * w) m))) x) → r ≡ digit (rowParity (8 * w) (row w m g) x)
+pub row-digit : (m : Bytes) (g w : ℕ) (t : Bits) (r : ℕ)
+    → r ≡ digit (rowParity (8 * w) (bitsOf (take (g * w + w - g * w) (drop (g * w) m))) t) → r ≡ digit (rowParity (8 * w) (row w m g) t)
 unfolding row
-row-digit-of m g w x r h =
+row-digit m g w t r h =
     let d : g * w + w - g * w ≡ w = omega arith in
-    h ∙ ap (λ (k : ℕ). digit (rowParity (8 * w) (bitsOf (take k (drop (g * w) m))) x)) d
+    h ∙ ap (λ (k : ℕ). digit (rowParity (8 * w) (bitsOf (take k (drop (g * w) m))) t)) d
 
-pub row-digit : (m : Bytes) (g w : ℕ) (x : Bits) (r : ℕ) → g * w + w ≤ length m
-    → r ≡ digit (rowParity (8 * length (take (g * w + w - g * w) (drop (g * w) m))) (bitsOf (take (g * w + w - g * w) (drop (g * w) m))) x)
-    → r ≡ digit (rowParity (8 * w) (row w m g) x)
-unfolding row
-row-digit m g w x r l h =
-    let d : g * w + w - g * w ≡ w = omega arith in
-    h ∙ ap₂ (λ (n k : ℕ). digit (rowParity (8 * n) (bitsOf (take k (drop (g * w) m))) x)) (part-long m (g * w) w l) d
+-- a vector t that stands for v gives the same
+pub rows-for : (m : Bytes) (g w : ℕ) (t v : Bits) (y : ℕ) → w ≤ 32 → Agree 256 t v
+    → Holds (from g (λ i. rowParity (8 * w) (row w m i) t)) y → Holds (from g (λ i. rowParity (8 * w) (row w m i) v)) y
+unfolding rowParity
+rows-for m g w t v y l e h i b =
+    h i b ∙ parity-cong (8 * w) _ _ (λ j c. ap (λ (d : Bool). row w m (g + i) j && d) (e j (omega arith)))
 
 pub value-more : (f : Bits) (j x y : ℕ) → x ≡ value j f → y ≡ digit (f j) → x * 2 + y ≡ value (j + 1) f
 unfolding value

@@ -3,9 +3,9 @@ ghost use mathlib.Core.Path.{_≡_};
 ghost use Prim.Native.Nat.{_+_, _*_, _%_, _≤_, _<_};
 ghost use lib.ListN.{length};
 ghost use Rattle.slices.specs.Slices.{over};
-ghost use Rattle.bits.specs.Bits.{_⊕_, upTo, from};
+ghost use Rattle.bits.specs.Bits.{_⊕_, Agree, upTo, from};
 ghost use Rattle.bits.specs.Bytes.{bitsOf, odd, digit};
-ghost use Rattle.bits.specs.Words.{wordBits, blockBits, Holds};
+ghost use Rattle.bits.specs.Words.{wordBits, blockBits, lowBits, Holds};
 ghost use Rattle.sets.specs.Sets.{IsSet, numbered};
 ghost use Rattle.answers.specs.Answers.{first};
 ghost use Rattle.answers.specs.Outcome.{Promise};
@@ -29,24 +29,25 @@ fn low_bit(a: u32, b: u32) -> u32
     (a % 2) ^ (b % 2)
 }
 
-// The ones in word k of row AND v.
+// The ones in word k of row AND v. Words of v have their first byte lowest, as words of the row have when they are loaded: the
+// order of bytes does not count, and so nothing is turned in the loop over rows.
 fn ones(row: &[u8], v: Block, k: usize) -> u32
     requires { ⌜ (k < 4) × (8 * k + 8 ≤ length (now row)) ⌝ }
-    ensures { λ r. ⌜ odd r ≡ rowParity 64 (from (64 * k) (bitsOf (now (row .entry)))) (from (64 * k) (blockBits v)) ⌝ }
+    ensures { λ r. ⌜ odd r ≡ rowParity 64 (from (64 * k) (bitsOf (now (row .entry)))) (from (64 * k) (lowBits v)) ⌝ }
 {
-    u64::count_ones(bits::load_word(row, 8 * k) & v.words[k])
+    u64::count_ones(bits::load_low(row, 8 * k) & v.words[k])
 }
 
-// The parity of row AND v: the low bit of the sum of the ones in each word.
-fn row_parity(row: &[u8], v: Block) -> u32
-    requires { ⌜ Words (length (now row)) ⌝ }
-    ensures { λ r. ⌜ r ≡ digit (rowParity (8 * length (now (row .entry))) (bitsOf (now (row .entry))) (blockBits v)) ⌝ }
+// The parity of row AND v: the low bit of the sum of the ones in each of the w / 8 words.
+fn row_parity(row: &[u8], w: usize, v: Block) -> u32
+    requires { ⌜ Words w × (length (now row) ≡ w) ⌝ }
+    ensures { λ r. ⌜ r ≡ digit (rowParity (8 * w) (bitsOf (now (row .entry))) (lowBits v)) ⌝ }
 {
     let two = low_bit(ones(row, v, 0), ones(row, v, 1));
-    if row.len() == 16 {
+    if w == 16 {
         return two;
     }
-    if row.len() == 24 {
+    if w == 24 {
         return low_bit(two, ones(row, v, 2));
     }
     low_bit(two, low_bit(ones(row, v, 2), ones(row, v, 3)))
@@ -57,12 +58,13 @@ fn rows_word(m: &[u8], w: usize, g: usize, v: Block) -> u64
     requires { ⌜ Words w × (g ≤ 192) × ((g + 64) * w ≤ length (now m)) ⌝ }
     ensures { λ r. ⌜ Holds (from g (λ i. rowParity (8 * w) (row w (now (m .entry)) i) (blockBits v))) r ⌝ }
 {
+    let t = v.turned();
     let mut x = 0u64;
     let mut j = 0;
     while j < 64 {
         let at = (g + j) * w;
         let end = at + w;
-        x = x * 2 + row_parity(&m[at..end], v) as u64;
+        x = x * 2 + row_parity(&m[at..end], w, t) as u64;
         j += 1;
     }
     x
@@ -127,8 +129,8 @@ struct Parities {
 fn row_parities(row: &[u8], w: usize, v: Pair) -> Parities
     requires { ⌜ Words w × (length (now row) ≡ w) ⌝ }
     ensures { λ r. ⌜
-        (r .a ≡ digit (rowParity (8 * w) (bitsOf (now (row .entry))) (blockBits (v .a))))
-        × (r .b ≡ digit (rowParity (8 * w) (bitsOf (now (row .entry))) (blockBits (v .b))))
+        (r .a ≡ digit (rowParity (8 * w) (bitsOf (now (row .entry))) (lowBits (v .a))))
+        × (r .b ≡ digit (rowParity (8 * w) (bitsOf (now (row .entry))) (lowBits (v .b))))
         ⌝ }
 {
     let x = v.a;
@@ -150,6 +152,17 @@ fn row_parities(row: &[u8], w: usize, v: Pair) -> Parities
     }
 }
 
+// Two vectors with the bytes of each word in the other order.
+fn turned_both(v: Pair) -> Pair
+    ensures { λ r. ⌜ Agree 256 (lowBits (r .a)) (blockBits (v .a)) × Agree 256 (lowBits (r .b)) (blockBits (v .b)) ⌝ }
+{
+    let x = v.a;
+    let y = v.b;
+    let a = x.turned();
+    let b = y.turned();
+    Pair { a, b }
+}
+
 // What the 64 rows of m from row g on give with each of two vectors. A row is read once for both.
 fn rows_words(m: &[u8], w: usize, g: usize, v: Pair) -> Two
     requires { ⌜ Words w × (g ≤ 192) × ((g + 64) * w ≤ length (now m)) ⌝ }
@@ -158,13 +171,14 @@ fn rows_words(m: &[u8], w: usize, g: usize, v: Pair) -> Two
         × Holds (from g (λ i. rowParity (8 * w) (row w (now (m .entry)) i) (blockBits (v .b)))) (r .b)
         ⌝ }
 {
+    let t = turned_both(v);
     let mut x = 0u64;
     let mut y = 0u64;
     let mut j = 0;
     while j < 64 {
         let at = (g + j) * w;
         let end = at + w;
-        let d = row_parities(&m[at..end], w, v);
+        let d = row_parities(&m[at..end], w, t);
         x = x * 2 + d.a as u64;
         y = y * 2 + d.b as u64;
         j += 1;

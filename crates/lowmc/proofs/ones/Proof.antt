@@ -5,11 +5,11 @@ use borrow.Author.Needs.{needs}
 use Rattle.lowmc.proofs.ones.Statement.{statement}
 use Rattle.lowmc.proofs.ones.Tie as tie
 
-mul-load-word : tie.Need-mul-load-word
-mul-load-word c = search needs
+mul-load-low : tie.Need-mul-load-low
+mul-load-low c = search needs
 
-load-word-requires : tie.Need-load-word-requires
-load-word-requires c κs = search needs
+load-low-requires : tie.Need-load-low-requires
+load-low-requires c κs = search needs
 
 mul-result : tie.Need-mul-result
 mul-result c = search needs
@@ -20,11 +20,11 @@ element-copy-out-result c = search needs
 returns : tie.Need-returns
 returns c =
     let a = c .before .before .before .args in
-    let w = c .before .load-word in
+    let w = c .before .load-low in
     let f : w .result < 2 ^ 64 = search needs in
-    ones-odd (a .row .now) (a .t2 .words) (a .k) (w .result) f (w .ensures)
+    ones-odd (a .row .now) (a .t2) (a .k) (w .result) f (w .ensures)
 
 pub ones-spec : {M : Type 1} → statement M
 ones-spec =
     tie.close
-    (tie.spec mul-load-word load-word-requires mul-result element-copy-out-result returns)
+    (tie.spec mul-load-low load-low-requires mul-result element-copy-out-result returns)

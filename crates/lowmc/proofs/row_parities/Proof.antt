@@ -4,7 +4,7 @@ use mathlib.Core.Path.{_≡_}
 use Prim.Native.Nat.{_*_}
 use Rattle.bits.specs.Bits.{Bits}
 use Rattle.bits.specs.Bytes.{bitsOf}
-use Rattle.bits.specs.Words.{blockBits}
+use Rattle.bits.specs.Words.{lowBits}
 use Rattle.lowmc.proofs.ProductLaws.{two-words, three-words, four-words, low-digit}
 use borrow.Author.Needs.{needs}
 use Rattle.lowmc.proofs.row_parities.Statement.{statement}
@@ -32,8 +32,8 @@ returns : tie.Need-returns
 returns c =
     let a = c .before .before .before .before .before .before .before .before .before .before .args in
     let f : Bits = bitsOf (a .row .now) in
-    let g : Bits = blockBits (a .v .a) in
-    let h : Bits = blockBits (a .v .b) in
+    let g : Bits = lowBits (a .v .a) in
+    let h : Bits = lowBits (a .v .b) in
     let n = 8 * a .w in
     let s = c .before .before .before .before .low-bit .ensures in
     let t = c .before .low-bit2 .ensures in
@@ -57,8 +57,8 @@ returns-2 : tie.Need-returns-2
 returns-2 c =
     let a = c .before .before .before .before .before .before .before .before .before .before .before .before .before .before .before .args in
     let f : Bits = bitsOf (a .row .now) in
-    let g : Bits = blockBits (a .v .a) in
-    let h : Bits = blockBits (a .v .b) in
+    let g : Bits = lowBits (a .v .a) in
+    let h : Bits = lowBits (a .v .b) in
     let n = 8 * a .w in
     let x = two-words f g _ _ _ (c .before .before .before .before .before .before .before .before .before .before .before .ones .ensures) (c .before .before .before .before .before .before .before .before .before .before .ones2 .ensures) (c .before .before .before .before .before .before .before .before .before .low-bit .ensures) in
     let y = two-words f h _ _ _ (c .before .before .before .before .before .before .before .before .ones3 .ensures) (c .before .before .before .before .before .before .before .ones4 .ensures) (c .before .before .before .before .before .before .low-bit2 .ensures) in
@@ -96,8 +96,8 @@ returns-3 : tie.Need-returns-3
 returns-3 c =
     let a = c .before .before .before .before .before .before .before .before .before .before .before .before .before .before .before .before .before .before .before .args in
     let f : Bits = bitsOf (a .row .now) in
-    let g : Bits = blockBits (a .v .a) in
-    let h : Bits = blockBits (a .v .b) in
+    let g : Bits = lowBits (a .v .a) in
+    let h : Bits = lowBits (a .v .b) in
     let n = 8 * a .w in
     let x = two-words f g _ _ _ (c .before .before .before .before .before .before .before .before .before .before .before .before .before .before .before .ones .ensures) (c .before .before .before .before .before .before .before .before .before .before .before .before .before .before .ones2 .ensures) (c .before .before .before .before .before .before .before .before .before .before .before .before .before .low-bit .ensures) in
     let y = two-words f h _ _ _ (c .before .before .before .before .before .before .before .before .before .before .before .before .ones3 .ensures) (c .before .before .before .before .before .before .before .before .before .before .before .ones4 .ensures) (c .before .before .before .before .before .before .before .before .before .before .low-bit2 .ensures) in
