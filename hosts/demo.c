@@ -1,9 +1,11 @@
-/* The main job: signs a package, verifies the signature, and shows what a verifier refuses: demo TABLES PACKAGE. The first file
-   has the LowMC tables of set 1: key matrices, layer matrices, round constants. The second is the package. The exit status is 0
+/* The main job: signs a package, verifies the signature, and shows what a verifier refuses: demo PACKAGE. The exit status is 0
    only if every call answers as it should. */
 #include <stdio.h>
 #include <stdlib.h>
 
+#include "draw.h"
+#include "files.h"
+#include "names.h"
 #include "picnic.h"
 
 enum {
@@ -20,7 +22,7 @@ enum {
 };
 
 /* The library takes no memory: whatever it reads or writes is the host's. Here are the tables, which everyone has; */
-static uint8_t tables[KEYS + LAYERS + CONSTANTS + 1];
+static uint8_t tables[KEYS + LAYERS + CONSTANTS];
 /* what the maker of packages keeps; */
 static uint8_t secret[BLOCK], seeds[SEEDS];
 /* what goes to whoever loads the package; */
@@ -32,27 +34,6 @@ static uint8_t room[ROOM];
 /* The tables as three slices. */
 #define TABLES tables, KEYS, tables + KEYS, LAYERS, tables + KEYS + LAYERS, CONSTANTS
 
-/* The refusals by their numbers: the name in the header, and what it says here. */
-#define REFUSAL(name, meaning) [name] = { #name, meaning }
-
-static const struct refusal {
-    const char *name, *meaning;
-} refusals[] = {
-    REFUSAL(PICNIC_FINE, "valid"),
-    REFUSAL(PICNIC_NO_SET, "there is no such set"),
-    REFUSAL(PICNIC_TABLE, "a table has another length"),
-    REFUSAL(PICNIC_KEY, "a key or block has another length"),
-    REFUSAL(PICNIC_MESSAGE, "the package is empty or too long"),
-    REFUSAL(PICNIC_LIMIT, "the block limit is 0 or too high"),
-    REFUSAL(PICNIC_ROOM, "room or an output is too short, or the seeds have another length"),
-    REFUSAL(PICNIC_PAIR, "the keys do not belong together"),
-    REFUSAL(PICNIC_BLOCKS, "the allowed blocks have too few challenge values"),
-    REFUSAL(PICNIC_WRONG_LENGTH, "the signature has a wrong length"),
-    REFUSAL(PICNIC_HEADER, "the signature has a malformed header"),
-    REFUSAL(PICNIC_PADDING, "the signature has padding that is not zero"),
-    REFUSAL(PICNIC_DIFFERS, "the signature is not valid"),
-};
-
 static void fail(const char *what)
 {
     fprintf(stderr, "demo: %s\n", what);
@@ -62,11 +43,9 @@ static void fail(const char *what)
 static void print_answer(FILE *file, uint64_t answer)
 {
     uint32_t number = PICNIC_REFUSAL(answer);
+    const struct refusal *refusal = refusal_of(number);
 
-    if (number < sizeof refusals / sizeof refusals[0])
-        fprintf(file, "%lu, %s, %s\n", (unsigned long)number, refusals[number].name, refusals[number].meaning);
-    else
-        fprintf(file, "%lu, which is no refusal\n", (unsigned long)number);
+    fprintf(file, "%lu, %s, %s\n", (unsigned long)number, refusal->name, refusal->meaning);
 }
 
 /* A call that fills an output must not refuse, and must have written so many bytes. */
@@ -83,48 +62,12 @@ static void check_written(const char *call, uint64_t answer, uint64_t length)
     }
 }
 
-/* Fills bytes from a file, as far as it goes, and says how many came. Nothing is buffered, so no copy of a secret is left
-   behind. */
-static size_t read_file(const char *path, uint8_t *bytes, size_t length)
+/* There is a byte of room behind the longest package, so a file that is longer is seen to be. That a package is too long or
+   empty is left to the library to say. */
+static void read_package(const char *path)
 {
-    FILE *file = fopen(path, "rb");
-    size_t got;
-
-    if (file == NULL || setvbuf(file, NULL, _IONBF, 0) != 0) {
-        fprintf(stderr, "demo: %s cannot be opened\n", path);
-        exit(1);
-    }
-    got = fread(bytes, 1, length, file);
-    if (ferror(file)) {
-        fprintf(stderr, "demo: %s cannot be read\n", path);
-        exit(1);
-    }
-    fclose(file);
-    return got;
-}
-
-static void fill_with_random(uint8_t *bytes, size_t length)
-{
-    if (read_file("/dev/urandom", bytes, length) != length)
-        fail("the system has no random bytes");
-}
-
-/* Clears a secret. The pointer is volatile, or a compiler could leave out what nobody reads. */
-static void forget(volatile uint8_t *bytes, size_t length)
-{
-    size_t i;
-
-    for (i = 0; i < length; i++)
-        bytes[i] = 0;
-}
-
-/* There is a byte of room behind the tables and behind the longest package, so a file that is longer is seen to be. That a
-   package is too long or empty is left to the library to say. */
-static void read_files(const char *tables_path, const char *package_path)
-{
-    if (read_file(tables_path, tables, sizeof tables) != KEYS + LAYERS + CONSTANTS)
-        fail("the first file does not hold the tables of set 1");
-    package_length = read_file(package_path, package, sizeof package);
+    if (!read_file(path, package, sizeof package, &package_length))
+        fail("the package cannot be read");
 }
 
 /* The secret key and the plaintext block are random; the public key follows from them. */
@@ -132,8 +75,8 @@ static void make_keys(void)
 {
     uint8_t block[BLOCK];
 
-    fill_with_random(secret, BLOCK);
-    fill_with_random(block, BLOCK);
+    if (!fill_with_random(secret, BLOCK) || !fill_with_random(block, BLOCK))
+        fail("the system has no random bytes");
     check_written("picnic_public_key",
                   picnic_public_key(SET, TABLES, secret, BLOCK, block, BLOCK, public_key, PUBLIC), PUBLIC);
     printf("Keys       a secret key of %d bytes, a public key of %d bytes\n", BLOCK, PUBLIC);
@@ -192,11 +135,12 @@ static void show_refusals(void)
 
 int main(int argc, char **argv)
 {
-    if (argc != 3) {
-        fprintf(stderr, "usage: demo TABLES PACKAGE\n");
+    if (argc != 2) {
+        fprintf(stderr, "usage: demo PACKAGE\n");
         return 2;
     }
-    read_files(argv[1], argv[2]);
+    read_package(argv[1]);
+    draw_tables(SET, tables);
     printf("Set        %d, picnic-L1-FS\n", SET);
     make_keys();
     sign();

@@ -5,6 +5,7 @@
 pub mod challenge;
 pub mod damaged;
 pub mod faults;
+pub mod fuzz;
 pub mod hash;
 pub mod lowmc;
 pub mod published;
@@ -199,6 +200,11 @@ impl Sheet {
         Piece::Named(name.into())
     }
 
+    /// How many names there are.
+    pub fn names(&self) -> usize {
+        self.defined.len()
+    }
+
     /// The bytes of this name.
     fn named(&self, name: &str) -> Option<&[u8]> {
         let found = self.defined.iter().find(|defined| defined.name == name);
@@ -272,6 +278,28 @@ impl Sheet {
             Piece::Noise { seed, length } => Noise::new(*seed).bytes(*length),
             Piece::Named(name) => whole(name).to_vec(),
             Piece::Part { name, from, length } => whole(name)[*from..*from + *length].to_vec(),
+        }
+    }
+}
+
+/// A file of calls as it is made: which function it is of, the calls so far,
+/// and the source of their inputs.
+pub struct Maker<Function> {
+    /// The function.
+    pub function: Function,
+    /// The calls.
+    pub sheet: Sheet,
+    /// The source.
+    pub noise: Noise,
+}
+
+impl<Function> Maker<Function> {
+    /// No calls, and a source that starts at a seed.
+    pub fn new(function: Function, seed: u64) -> Self {
+        Maker {
+            function,
+            sheet: Sheet::default(),
+            noise: Noise::new(seed),
         }
     }
 }
@@ -377,6 +405,26 @@ mod tests {
             seen.insert((set.number, length > start.len()));
         }
         assert_eq!(seen.len(), 2 * SETS.len());
+    }
+
+    /// Checks that the room, which is this argument, is left zero by just the
+    /// calls that got as far as using it, and gives how many calls end in each
+    /// refusal, by its number.
+    pub fn check_rooms(sheet: &Sheet, room: usize) -> [usize; 13] {
+        let mut counts = [0; 13];
+        for call in sheet.calls() {
+            let refusal = (call.answer >> 32) as usize;
+            counts[refusal] += 1;
+            let Argument::Written { length, start } = &call.arguments[room] else {
+                panic!("{}: no room", call.label);
+            };
+            let used = [0, 8, 12].contains(&refusal);
+            assert_eq!(!start.is_empty(), used, "{}", call.label);
+            let bytes = sheet.bytes(start);
+            assert!(bytes.len() <= *length, "{}", call.label);
+            assert!(bytes.iter().all(|&byte| byte == 0), "{}", call.label);
+        }
+        counts
     }
 
     fn labelled(label: &str) -> Call {

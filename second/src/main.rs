@@ -26,6 +26,9 @@ second calls {hash|encrypt|public_key|seeds|challenge|read|write|sign|verify}
     host to make
 second calls damaged
     print calls of verify with many damaged signatures
+second calls fuzz SEED COUNT
+    print COUNT calls of verify, read and write by seeded noise: signatures
+    and unpacked forms changed at random, with the answers of this program
 second answers SET COUNT
     sign COUNT messages under set 1, 2 or 3 and print keys, messages and
     signatures in the form in which Picnic's known answers are published
@@ -78,6 +81,7 @@ fn run(arguments: &[String], input: &mut dyn Read, output: &mut dyn Write) -> Re
         ["help"] => print(output, HELP),
         ["constants"] => run_constants(output),
         ["calls", function] => run_calls(function, output),
+        ["calls", "fuzz", seed, count] => run_fuzz(seed, count, output),
         ["answers", set, count] => run_answers(set, count, output),
         ["published"] => run_published(input, output),
         ["shake", which, length] => run_shake(which, length, input, output),
@@ -129,6 +133,15 @@ fn run_constants(output: &mut dyn Write) -> Result<(), Refusal> {
 fn run_calls(function: &str, output: &mut dyn Write) -> Result<(), Refusal> {
     let sheet = calls::of(function)
         .ok_or_else(|| format!("{function}: no calls are written of such a function"))?;
+    print(output, &sheet.to_string())
+}
+
+fn run_fuzz(seed: &str, count: &str, output: &mut dyn Write) -> Result<(), Refusal> {
+    let seed: u64 = number("SEED", seed)?;
+    if seed >= 1 << 63 {
+        return Err(format!("SEED: {seed} is too high"));
+    }
+    let sheet = calls::fuzz::sheet(seed, number("COUNT", count)?);
     print(output, &sheet.to_string())
 }
 

@@ -78,6 +78,19 @@ fn calls_go_to_the_function_that_is_asked_for() {
     }
 }
 
+/// Noisy calls are asked for by seed and number.
+#[test]
+fn noisy_calls_follow_from_their_seed() {
+    let sheet = second::calls::fuzz::sheet(3, 5);
+    check_answer(&["calls", "fuzz", "3", "5"], b"", &sheet.to_string());
+    for arguments in [
+        ["calls", "fuzz", "9223372036854775808", "1"],
+        ["calls", "fuzz", "x", "1"],
+    ] {
+        assert_eq!(run(&arguments, b"").status.code(), Some(1), "{arguments:?}");
+    }
+}
+
 /// Known answers go out and come back in as calls.
 #[test]
 fn known_answers_become_calls() {

@@ -83,6 +83,13 @@ low-digit f g m n a r e o d =
 -- ---- the word that 64 rows give
 
 -- the parity that is computed of a lent row
+pub row-digit-of : (m : Bytes) (g w : ℕ) (x : Bits) (r : ℕ)
+    → r ≡ digit (rowParity (8 * w) (bitsOf (take (g * w + w - g * w) (drop (g * w) m))) x) → r ≡ digit (rowParity (8 * w) (row w m g) x)
+unfolding row
+row-digit-of m g w x r h =
+    let d : g * w + w - g * w ≡ w = omega arith in
+    h ∙ ap (λ (k : ℕ). digit (rowParity (8 * w) (bitsOf (take k (drop (g * w) m))) x)) d
+
 pub row-digit : (m : Bytes) (g w : ℕ) (x : Bits) (r : ℕ) → g * w + w ≤ length m
     → r ≡ digit (rowParity (8 * length (take (g * w + w - g * w) (drop (g * w) m))) (bitsOf (take (g * w + w - g * w) (drop (g * w) m))) x)
     → r ≡ digit (rowParity (8 * w) (row w m g) x)

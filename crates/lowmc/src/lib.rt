@@ -104,6 +104,123 @@ pub fn product(p: Set, table: &[u8], k: usize, v: Block) -> Block
     product_rows(&table[at..end], w, v)
 }
 
+// Two blocks, to be multiplied by the same matrices.
+pub struct Pair {
+    pub a: Block,
+    pub b: Block,
+}
+
+// Two words.
+struct Two {
+    a: u64,
+    b: u64,
+}
+
+// Two parities.
+struct Parities {
+    a: u32,
+    b: u32,
+}
+
+// The parities of row AND each of two vectors. A function of its own, not two calls of `row_parity`: called at one place alone,
+// each of the two is compiled into its loop.
+fn row_parities(row: &[u8], w: usize, v: Pair) -> Parities
+    requires { ⌜ Words w × (length (now row) ≡ w) ⌝ }
+    ensures { λ r. ⌜
+        (r .a ≡ digit (rowParity (8 * w) (bitsOf (now (row .entry))) (blockBits (v .a))))
+        × (r .b ≡ digit (rowParity (8 * w) (bitsOf (now (row .entry))) (blockBits (v .b))))
+        ⌝ }
+{
+    let x = v.a;
+    let y = v.b;
+    let a = low_bit(ones(row, x, 0), ones(row, x, 1));
+    let b = low_bit(ones(row, y, 0), ones(row, y, 1));
+    if w == 16 {
+        return Parities { a, b };
+    }
+    if w == 24 {
+        return Parities {
+            a: low_bit(a, ones(row, x, 2)),
+            b: low_bit(b, ones(row, y, 2)),
+        };
+    }
+    Parities {
+        a: low_bit(a, low_bit(ones(row, x, 2), ones(row, x, 3))),
+        b: low_bit(b, low_bit(ones(row, y, 2), ones(row, y, 3))),
+    }
+}
+
+// What the 64 rows of m from row g on give with each of two vectors. A row is read once for both.
+fn rows_words(m: &[u8], w: usize, g: usize, v: Pair) -> Two
+    requires { ⌜ Words w × (g ≤ 192) × ((g + 64) * w ≤ length (now m)) ⌝ }
+    ensures { λ r. ⌜
+        Holds (from g (λ i. rowParity (8 * w) (row w (now (m .entry)) i) (blockBits (v .a)))) (r .a)
+        × Holds (from g (λ i. rowParity (8 * w) (row w (now (m .entry)) i) (blockBits (v .b)))) (r .b)
+        ⌝ }
+{
+    let mut x = 0u64;
+    let mut y = 0u64;
+    let mut j = 0;
+    while j < 64 {
+        let at = (g + j) * w;
+        let end = at + w;
+        let d = row_parities(&m[at..end], w, v);
+        x = x * 2 + d.a as u64;
+        y = y * 2 + d.b as u64;
+        j += 1;
+    }
+    Two { a: x, b: y }
+}
+
+// The 64 bits from bit g on of the products of m, 8 w rows of w bytes, and each of two vectors.
+fn product_words(m: &[u8], w: usize, g: usize, v: Pair) -> Two
+    requires { ⌜ Words w × (g ≤ 192) × (g % 64 ≡ 0) × (length (now m) ≡ 8 * w * w) ⌝ }
+    ensures { λ r. ⌜
+        Holds (from g (product (8 * w) (row w (now (m .entry))) (blockBits (v .a)))) (r .a)
+        × Holds (from g (product (8 * w) (row w (now (m .entry))) (blockBits (v .b)))) (r .b)
+        ⌝ }
+{
+    if 8 * w <= g {
+        return Two { a: 0, b: 0 };
+    }
+    rows_words(m, w, g, v)
+}
+
+// The products of m, 8 w rows of w bytes, and each of two vectors.
+fn products_rows(m: &[u8], w: usize, v: Pair) -> Pair
+    requires { ⌜ Words w × (length (now m) ≡ 8 * w * w) ⌝ }
+    ensures { λ r. ⌜
+        (blockBits (r .a) ≡ product (8 * w) (row w (now (m .entry))) (blockBits (v .a)))
+        × (blockBits (r .b) ≡ product (8 * w) (row w (now (m .entry))) (blockBits (v .b)))
+        ⌝ }
+{
+    let x = product_words(m, w, 0, v);
+    let y = product_words(m, w, 64, v);
+    let z = product_words(m, w, 128, v);
+    let u = product_words(m, w, 192, v);
+    let a = Block {
+        words: [x.a, y.a, z.a, u.a],
+    };
+    let b = Block {
+        words: [x.b, y.b, z.b, u.b],
+    };
+    Pair { a, b }
+}
+
+// The products of matrix k of a table and each of two vectors.
+pub fn products(p: Set, table: &[u8], k: usize, v: Pair) -> Pair
+    requires { ⌜ IsSet p × ((k + 1) * p .n * w p ≤ length (now table)) ⌝ }
+    ensures { λ r. ⌜
+        (blockBits (r .a) ≡ product (p .n) (matrixOf (p .n) (now (table .entry)) k) (blockBits (v .a)))
+        × (blockBits (r .b) ≡ product (p .n) (matrixOf (p .n) (now (table .entry)) k) (blockBits (v .b)))
+        ⌝ }
+{
+    let w = p.width();
+    let at = k * p.n * w;
+    let end = at + p.n * w;
+    products_rows(&table[at..end], w, v)
+}
+
 // Round constant i.
 pub fn constant(p: Set, constants: &[u8], i: usize) -> Block
     requires { ⌜ IsSet p × (length (now constants) ≡ constantsLength p) × (i < p .r) ⌝ }
@@ -223,6 +340,47 @@ pub fn turn(p: Set, keys: &[u8], layers: &[u8], i: usize, key: Block, c: Block, 
         ⊕ blockBits c ⊕ product (p .n) (matrixOf (p .n) (now (keys .entry)) (i + 1)) (blockBits key) ⌝ }
 {
     product(p, layers, i, y).xor(c.xor(product(p, keys, i + 1, key)))
+}
+
+// The exclusive or of two pairs.
+fn xor_both(x: Pair, y: Pair) -> Pair
+    ensures { λ r. ⌜
+        (blockBits (r .a) ≡ blockBits (x .a) ⊕ blockBits (y .a)) × (blockBits (r .b) ≡ blockBits (x .b) ⊕ blockBits (y .b))
+        ⌝ }
+{
+    let xa = x.a;
+    let xb = x.b;
+    let ya = y.a;
+    let yb = y.b;
+    let a = xa.xor(ya);
+    let b = xb.xor(yb);
+    Pair { a, b }
+}
+
+// `start` for two keys, each with a c of its own.
+pub fn start_both(p: Set, keys: &[u8], key: Pair, c: Pair) -> Pair
+    requires { ⌜ IsSet p × (length (now keys) ≡ keysLength p) ⌝ }
+    ensures { λ r. ⌜
+        (blockBits (r .a) ≡ product (p .n) (matrixOf (p .n) (now (keys .entry)) 0) (blockBits (key .a)) ⊕ blockBits (c .a))
+        × (blockBits (r .b) ≡ product (p .n) (matrixOf (p .n) (now (keys .entry)) 0) (blockBits (key .b)) ⊕ blockBits (c .b))
+        ⌝ }
+{
+    xor_both(products(p, keys, 0, key), c)
+}
+
+// `turn` for two keys, each with a c and a y of its own.
+pub fn turn_both(p: Set, keys: &[u8], layers: &[u8], i: usize, key: Pair, c: Pair, y: Pair) -> Pair
+    requires { ⌜ IsSet p × (length (now keys) ≡ keysLength p) × (length (now layers) ≡ layersLength p) × (i < p .r) ⌝ }
+    ensures { λ r. ⌜
+        (blockBits (r .a) ≡ product (p .n) (matrixOf (p .n) (now (layers .entry)) i) (blockBits (y .a))
+        ⊕ blockBits (c .a) ⊕ product (p .n) (matrixOf (p .n) (now (keys .entry)) (i + 1)) (blockBits (key .a)))
+        × (blockBits (r .b) ≡ product (p .n) (matrixOf (p .n) (now (layers .entry)) i) (blockBits (y .b))
+        ⊕ blockBits (c .b) ⊕ product (p .n) (matrixOf (p .n) (now (keys .entry)) (i + 1)) (blockBits (key .b)))
+        ⌝ }
+{
+    let l = products(p, layers, i, y);
+    let k = products(p, keys, i + 1, key);
+    xor_both(l, xor_both(c, k))
 }
 
 // A round of LowMC.

@@ -4,15 +4,16 @@ ghost use mathlib.Core.Path.{_≡_};
 ghost use mathlib.Core.Bool.{cond};
 ghost use Prim.Native.Nat.{ℕ, _*_, _≤_, _<_};
 ghost use lib.ListN.{length};
-ghost use Rattle.bits.specs.Bits.{zeros, upTo, from};
 ghost use Rattle.slices.specs.Slices.{Bytes};
+ghost use Rattle.bits.specs.Bits.{_⊕_, zeros, upTo, from};
 ghost use Rattle.bits.specs.Bytes.{bitsOf, bytesOf};
 ghost use Rattle.bits.specs.Words.{wordBits, blockBits};
 ghost use Rattle.bits.specs.Rows.{Rows, cut, flat, rowsOf, Rowed};
 ghost use Rattle.sets.specs.Sets.{IsSet};
 ghost use Rattle.sets.specs.Lengths.{w, transcript};
 ghost use Rattle.circuit.specs.Lowmc.{start};
-ghost use Rattle.circuit.specs.Round.{Party, next, gates, advance};
+ghost use Rattle.circuit.specs.Gates.{sboxesBy};
+ghost use Rattle.circuit.specs.Round.{Party, party0, party1, party2, next, gates, advance};
 ghost use Rattle.circuit.specs.RoundTheorems.{xor3};
 ghost use Rattle.circuit.specs.Tapes.{number};
 ghost use Rattle.lowmc.specs.Lent.{cipherOf, Lent};
@@ -21,6 +22,7 @@ ghost use Rattle.round.specs.Inner.{Begun, Stepped};
 ghost use Rattle.round.specs.Inputs.{inputShare, Taped, tapesOf, openingOf};
 use bits::Block;
 use bits::Strip;
+use lowmc::Pair;
 use sets::Set;
 
 // A block for each party.
@@ -83,40 +85,74 @@ fn public_part(into: bool, c: Block) -> Block
     Block::zero()
 }
 
-// A share of the state before the first round.
-fn start_share(
+// Such parts of a public block for two shares.
+fn public_parts(in1: bool, in2: bool, c: Block) -> Pair
+    ensures { λ r. ⌜ (blockBits (r .a) ≡ cond in1 (blockBits c) zeros) × (blockBits (r .b) ≡ cond in2 (blockBits c) zeros) ⌝ }
+{
+    let a = public_part(in1, c);
+    let b = public_part(in2, c);
+    Pair { a, b }
+}
+
+// Two shares of the state before the first round. The matrix is read once for both.
+fn start_shares(
     p: Set,
     keys: &[u8],
     layers: &[u8],
     constants: &[u8],
-    share: Block,
-    into: bool,
+    shares: Pair,
+    in1: bool,
+    in2: bool,
     plain: Block,
-) -> Block
+) -> Pair
     requires { ⌜ Lent p (now keys) (now layers) (now constants) ⌝ }
-    ensures { λ r. ⌜ blockBits r ≡ start (cipherOf p (now (keys .entry)) (now (layers .entry)) (now (constants .entry))) (blockBits share) (cond into (blockBits plain) zeros) ⌝ }
+    ensures { λ r. ⌜
+        (blockBits (r .a) ≡ start (cipherOf p (now (keys .entry)) (now (layers .entry)) (now (constants .entry))) (blockBits (shares .a)) (cond in1 (blockBits plain) zeros))
+        × (blockBits (r .b) ≡ start (cipherOf p (now (keys .entry)) (now (layers .entry)) (now (constants .entry))) (blockBits (shares .b)) (cond in2 (blockBits plain) zeros))
+        ⌝ }
 {
-    lowmc::start(p, keys, share, public_part(into, plain))
+    lowmc::start_both(p, keys, shares, public_parts(in1, in2, plain))
 }
 
-// Round i of LowMC on a share: t is that party's row of gates.
-fn advance_share(
+// The layer of S-boxes on two shares: t and u are those parties' rows of gates.
+fn substitute(p: Set, x: Pair, t: u64, u: u64) -> Pair
+    requires { ⌜ IsSet p ⌝ }
+    ensures { λ r. ⌜
+        (blockBits (r .a) ≡ sboxesBy (p .s) (blockBits (x .a)) (wordBits t))
+        × (blockBits (r .b) ≡ sboxesBy (p .s) (blockBits (x .b)) (wordBits u))
+        ⌝ }
+{
+    let a = x.a;
+    let b = x.b;
+    let c = lowmc::sboxes_by(p, a, t);
+    let d = lowmc::sboxes_by(p, b, u);
+    Pair { a: c, b: d }
+}
+
+// Round i of LowMC on two shares: t and u are those parties' rows of gates.
+fn advance_shares(
     p: Set,
     keys: &[u8],
     layers: &[u8],
     constants: &[u8],
     i: usize,
-    share: Block,
-    into: bool,
-    x: Block,
+    shares: Pair,
+    in1: bool,
+    in2: bool,
+    x: Pair,
     t: u64,
-) -> Block
+    u: u64,
+) -> Pair
     requires { ⌜ Lent p (now keys) (now layers) (now constants) × (i < p .r) ⌝ }
-    ensures { λ r. ⌜ blockBits r ≡ advance (cipherOf p (now (keys .entry)) (now (layers .entry)) (now (constants .entry))) i (blockBits share)
-        (cond into (cipherOf p (now (keys .entry)) (now (layers .entry)) (now (constants .entry)) .roundconstant i) zeros) (blockBits x) (wordBits t) ⌝ }
+    ensures { λ r. ⌜
+        (blockBits (r .a) ≡ advance (cipherOf p (now (keys .entry)) (now (layers .entry)) (now (constants .entry))) i (blockBits (shares .a))
+        (cond in1 (cipherOf p (now (keys .entry)) (now (layers .entry)) (now (constants .entry)) .roundconstant i) zeros) (blockBits (x .a)) (wordBits t))
+        × (blockBits (r .b) ≡ advance (cipherOf p (now (keys .entry)) (now (layers .entry)) (now (constants .entry))) i (blockBits (shares .b))
+        (cond in2 (cipherOf p (now (keys .entry)) (now (layers .entry)) (now (constants .entry)) .roundconstant i) zeros) (blockBits (x .b)) (wordBits u))
+        ⌝ }
 {
-    let c = public_part(into, lowmc::constant(p, constants, i));
-    lowmc::turn(p, keys, layers, i, share, c, lowmc::sboxes_by(p, x, t))
+    let c = public_parts(in1, in2, lowmc::constant(p, constants, i));
+    lowmc::turn_both(p, keys, layers, i, shares, c, substitute(p, x, t, u))
 }
 
 // What a recomputation leaves: the output shares of the two opened parties, and the first one's transcript.
@@ -147,21 +183,27 @@ pub fn recompute(
     let r = p.r;
     let in1 = e == 0;
     let in2 = e == 2;
-    let mut x = start_share(p, keys, layers, constants, share1, in1, plain);
-    let mut y = start_share(p, keys, layers, constants, share2, in2, plain);
+    let shares = Pair {
+        a: share1,
+        b: share2,
+    };
+    let mut s = start_shares(p, keys, layers, constants, shares, in1, in2, plain);
     let mut words = [0u64; 40];
     let mut i = 0;
     while i < r {
+        let x = s.a;
+        let y = s.b;
         let g = gate_row(p, x, y, tape1.words[i], tape2.words[i]);
         words[i] = g;
-        x = advance_share(p, keys, layers, constants, i, share1, in1, x, g);
         let h = given.words[i];
-        y = advance_share(p, keys, layers, constants, i, share2, in2, y, h);
+        s = advance_shares(p, keys, layers, constants, i, shares, in1, in2, s, g, h);
         i += 1;
     }
+    let first = s.a;
+    let second = s.b;
     Again {
-        first: x,
-        second: y,
+        first,
+        second,
         said: Strip { words },
     }
 }
@@ -216,6 +258,28 @@ pub fn all_states(
     }
 }
 
+// The blocks of the first two parties.
+fn first_two(s: Shares) -> Pair
+    ensures { λ r. ⌜ (blockBits (r .a) ≡ share s party0) × (blockBits (r .b) ≡ share s party1) ⌝ }
+{
+    let a = s.a;
+    let b = s.b;
+    Pair { a, b }
+}
+
+// The states of two parties, and the third's: what they lack of the encryption's.
+fn with_third(x: Pair, whole: Block) -> Shares
+    ensures { λ r. ⌜
+        (share r party0 ≡ blockBits (x .a)) × (share r party1 ≡ blockBits (x .b))
+        × (share r party2 ≡ blockBits whole ⊕ blockBits (x .a) ⊕ blockBits (x .b))
+        ⌝ }
+{
+    let a = x.a;
+    let b = x.b;
+    let c = whole.xor(a.xor(b));
+    Shares { a, b, c }
+}
+
 // The three states before the first round. The third is what the first two lack of the encryption's: a product less.
 fn begin(
     p: Set,
@@ -229,12 +293,9 @@ fn begin(
     requires { ⌜ Lent p (now keys) (now layers) (now constants) ⌝ }
     ensures { λ r. ⌜ Begun (cipherOf p (now (keys .entry)) (now (layers .entry)) (now (constants .entry))) (blockBits plain) (share x) (blockBits whole) (share r) ⌝ }
 {
-    let xa = x.a;
-    let xb = x.b;
-    let a = start_share(p, keys, layers, constants, xa, true, plain);
-    let b = start_share(p, keys, layers, constants, xb, false, plain);
-    let c = whole.xor(a.xor(b));
-    Shares { a, b, c }
+    let a = first_two(x);
+    let y = start_shares(p, keys, layers, constants, a, true, false, plain);
+    with_third(y, whole)
 }
 
 // Round i for the three: x are the input shares, s the states, g the rows of gates, whole the encryption's state after the round.
@@ -252,14 +313,10 @@ fn step(
     requires { ⌜ Lent p (now keys) (now layers) (now constants) × (i < p .r) ⌝ }
     ensures { λ r. ⌜ Stepped (cipherOf p (now (keys .entry)) (now (layers .entry)) (now (constants .entry))) i (share x) (share s) (rowOf g) (blockBits whole) (share r) ⌝ }
 {
-    let xa = x.a;
-    let xb = x.b;
-    let sa = s.a;
-    let sb = s.b;
-    let a = advance_share(p, keys, layers, constants, i, xa, true, sa, g.a);
-    let b = advance_share(p, keys, layers, constants, i, xb, false, sb, g.b);
-    let c = whole.xor(a.xor(b));
-    Shares { a, b, c }
+    let a = first_two(x);
+    let b = first_two(s);
+    let y = advance_shares(p, keys, layers, constants, i, a, true, false, b, g.a, g.b);
+    with_third(y, whole)
 }
 
 // Row i of gates, where they begin at bit at of s.

@@ -8,7 +8,6 @@ use super::faults::{choices, no_sets, within, Fault};
 use super::{random_piece, Argument, Call, Outcome, Piece, Sheet};
 use crate::answers::Refusal;
 use crate::challenge::challenge;
-use crate::noise::Noise;
 use crate::sets::{Set, HIGHEST_BLOCK_LIMIT, SETS};
 
 /// Where the choice of random lengths and inputs starts.
@@ -37,11 +36,11 @@ fn outcome(case: &Case, input: &[u8]) -> Outcome {
     challenge(set, input, case.limit).ok_or(Refusal::Blocks)
 }
 
-/// The calls and the source of their inputs.
-struct Maker {
-    sheet: Sheet,
-    noise: Noise,
-}
+/// picnic_challenge.
+struct Function;
+
+/// The calls of it.
+type Maker = super::Maker<Function>;
 
 impl Maker {
     /// A case with an input of this length.
@@ -135,10 +134,7 @@ fn faults() -> Vec<Fault<Case>> {
 
 /// The file of calls.
 pub fn sheet() -> Sheet {
-    let mut maker = Maker {
-        sheet: Sheet::default(),
-        noise: Noise::new(SEED),
-    };
+    let mut maker = Maker::new(Function, SEED);
     for set in &SETS {
         maker.limits(set);
         maker.inputs(set);

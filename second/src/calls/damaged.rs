@@ -3,7 +3,7 @@
 
 use super::statement::define_tables;
 use super::strings::{field_ends, round_place};
-use super::verify::{values, Maker};
+use super::verify::{values, Function, Maker};
 use super::Sheet;
 use crate::noise::Noise;
 use crate::sets::{Set, SALT_BYTES, SETS};
@@ -167,7 +167,7 @@ fn add(maker: &mut Maker, set: &Set, count: usize) {
 
 /// The file of calls, with so many damaged signatures of each set.
 pub fn sheet(counts: [usize; 3]) -> Sheet {
-    let mut maker = Maker::new(SEED);
+    let mut maker = Maker::new(Function, SEED);
     for (set, count) in SETS.iter().zip(counts) {
         add(&mut maker, set, count);
     }
@@ -201,7 +201,7 @@ mod tests {
     /// Each way changes the signature, and no length but by the header.
     #[test]
     fn every_way_changes_something() {
-        let mut maker = Maker::new(1);
+        let mut maker = Maker::new(Function, 1);
         let set = &SETS[1];
         define_tables(&mut maker.sheet, set, &mut maker.noise);
         let case = maker.case("noise", set, 3);

@@ -5,7 +5,6 @@
 
 use super::{random_piece, Argument, Call, Outcome, Sheet, NO_SETS};
 use crate::answers::Refusal;
-use crate::noise::Noise;
 use crate::sets::{Set, LONGEST_HASH_OUTPUT, SETS};
 use crate::shake::shake;
 
@@ -24,11 +23,11 @@ fn outcome(set: u64, input: &[u8], length: usize) -> Outcome {
     Ok(shake(set.hash, input, length))
 }
 
-/// The calls and the source of their inputs.
-struct Maker {
-    sheet: Sheet,
-    noise: Noise,
-}
+/// picnic_hash.
+struct Function;
+
+/// The calls of it.
+type Maker = super::Maker<Function>;
 
 impl Maker {
     /// Adds a call with an input of this length, and its outcome.
@@ -119,10 +118,7 @@ fn output_edges(rate: usize) -> [usize; 11] {
 
 /// The file of calls.
 pub fn sheet() -> Sheet {
-    let mut maker = Maker {
-        sheet: Sheet::default(),
-        noise: Noise::new(SEED),
-    };
+    let mut maker = Maker::new(Function, SEED);
     for set in &SETS {
         maker.edges(set);
         maker.random(set);

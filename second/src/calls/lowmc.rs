@@ -9,7 +9,6 @@ use super::tables::{self, Contents, LentTables};
 use super::{Argument, Call, Outcome, Piece, Sheet};
 use crate::answers::Refusal;
 use crate::known::{Source, KNOWN};
-use crate::noise::Noise;
 use crate::sets::{Set, SETS};
 
 /// Where the choice of random tables, keys and blocks starts.
@@ -83,12 +82,8 @@ fn outcome(function: Function, case: &Case) -> Outcome {
     Ok(function.written(ciphertext, &case.block))
 }
 
-/// The calls and the source of their inputs.
-struct Maker {
-    function: Function,
-    sheet: Sheet,
-    noise: Noise,
-}
+/// The calls of one of them.
+type Maker = super::Maker<Function>;
 
 impl Maker {
     /// Defines all tables of a set: those drawn by the rule, twice noise, and
@@ -213,11 +208,7 @@ fn faults() -> Vec<Wrong> {
 
 /// The file of calls of a function.
 pub fn sheet(function: Function) -> Sheet {
-    let mut maker = Maker {
-        function,
-        sheet: Sheet::default(),
-        noise: Noise::new(SEED),
-    };
+    let mut maker = Maker::new(function, SEED);
     for set in &SETS {
         maker.define_tables(set);
         maker.known(set);
@@ -247,11 +238,7 @@ mod tests {
 
     /// What a case is refused for after a change, if it is.
     fn refused(function: Function, set: &Set, change: impl Fn(&mut Case)) -> Option<Refusal> {
-        let mut maker = Maker {
-            function,
-            sheet: Sheet::default(),
-            noise: Noise::new(1),
-        };
+        let mut maker = Maker::new(function, 1);
         maker.define_tables(set);
         let (secret, block) = (vec![1; set.width()], vec![2; set.width()]);
         let mut case = maker.case("zero", set, secret, block, 0);

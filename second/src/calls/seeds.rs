@@ -9,7 +9,6 @@ use super::faults::{choices, no_sets, other_lengths, within, Fault};
 use super::{random_piece, Argument, Call, Outcome, Piece, Sheet};
 use crate::answers::Refusal;
 use crate::hashing::derived_seeds;
-use crate::noise::Noise;
 use crate::sets::{Set, LONGEST_MESSAGE, SETS};
 
 /// Where the choice of random lengths and inputs starts.
@@ -45,11 +44,11 @@ fn outcome(case: &Case, message: &[u8]) -> Outcome {
     Ok(derived_seeds(set, &case.secret, &case.public, message))
 }
 
-/// The calls and the source of their inputs.
-struct Maker {
-    sheet: Sheet,
-    noise: Noise,
-}
+/// picnic_seeds.
+struct Function;
+
+/// The calls of it.
+type Maker = super::Maker<Function>;
 
 impl Maker {
     /// A case with a message of this length and an output that is longer than
@@ -174,10 +173,7 @@ fn faults() -> Vec<Wrong> {
 
 /// The file of calls.
 pub fn sheet() -> Sheet {
-    let mut maker = Maker {
-        sheet: Sheet::default(),
-        noise: Noise::new(SEED),
-    };
+    let mut maker = Maker::new(Function, SEED);
     for set in &SETS {
         maker.edges(set);
         maker.random(set);

@@ -10,7 +10,6 @@ use super::statement::{self, define_tables, Pair, Shared};
 use super::{answer, Argument, Call, Lent, Outcome, Piece, Sheet};
 use crate::answers::Refusal;
 use crate::hashing::derived_seeds;
-use crate::noise::Noise;
 use crate::sets::{Set, LONGEST_MESSAGE, SETS};
 
 /// Where the choice of random keys, seeds and messages starts.
@@ -54,11 +53,11 @@ fn outcome(case: &Case, sheet: &Sheet) -> Outcome {
     statement.sign(&case.secret, &case.seeds.bytes)
 }
 
-/// The calls and the source of their inputs.
-struct Maker {
-    sheet: Sheet,
-    noise: Noise,
-}
+/// picnic_sign.
+struct Function;
+
+/// The calls of it.
+type Maker = super::Maker<Function>;
 
 impl Maker {
     /// A case with a random pair, and seeds that are defined for it: derived
@@ -196,10 +195,7 @@ fn faults() -> Vec<Wrong> {
 
 /// The file of calls.
 pub fn sheet() -> Sheet {
-    let mut maker = Maker {
-        sheet: Sheet::default(),
-        noise: Noise::new(SEED),
-    };
+    let mut maker = Maker::new(Function, SEED);
     for set in &SETS {
         define_tables(&mut maker.sheet, set, &mut maker.noise);
         maker.made(set);
@@ -213,26 +209,20 @@ pub fn sheet() -> Sheet {
 #[cfg(test)]
 mod tests {
     use super::*;
+    use crate::calls::tests::check_rooms;
 
     /// There are calls of every outcome; a signature is written by just those
-    /// that are done, and a room is left zero by those and by refusal 8.
+    /// that are done.
     #[test]
     fn the_sheet_has_calls_of_every_outcome() {
         let sheet = sheet();
-        let mut counts = [0; 9];
         for call in sheet.calls() {
-            let refusal = (call.answer >> 32) as usize;
-            counts[refusal] += 1;
-            let [room, output] = [9, 10].map(|i| match &call.arguments[i] {
-                Argument::Written { start, .. } => sheet.bytes(start),
-                _ => panic!("{}: argument {i} is not written", call.label),
-            });
-            let used = [0, 8].contains(&refusal);
-            assert_eq!(!room.is_empty(), used, "{}", call.label);
-            assert!(room.iter().all(|&byte| byte == 0), "{}", call.label);
+            let (_, _, output) = sheet.ends(call);
             assert_eq!(call.answer & 0xffff_ffff, output.len() as u64);
         }
-        assert!(counts.iter().all(|&count| count >= 6), "{counts:?}");
+        let counts = check_rooms(&sheet, 9);
+        assert!(counts[..9].iter().all(|&count| count >= 6), "{counts:?}");
+        assert_eq!(counts[9..], [0; 4]);
         assert_eq!(counts[0], 8 + 3 + 2 + 3);
         assert!(sheet.to_string().len() < 6_000_000);
     }

@@ -40,7 +40,7 @@ impl Function {
     }
 
     /// Bytes that the output must have.
-    fn needed(self, set: &Set) -> usize {
+    pub fn needed(self, set: &Set) -> usize {
         match self {
             Function::Read => set.unpacked_bytes(),
             Function::Write => set.longest_signature(),
@@ -85,12 +85,15 @@ fn values(mix: &str, set: &Set, noise: &mut Noise) -> Vec<u8> {
 }
 
 /// The arguments of a call.
-struct Case {
-    set: u64,
-    given: Lent,
-    output: usize,
+pub struct Case {
+    /// The number of the set.
+    pub set: u64,
+    /// The string.
+    pub given: Lent,
+    /// The length of the output.
+    pub output: usize,
     /// The defined string that what is written is held against.
-    written: String,
+    pub written: String,
 }
 
 /// What the call must do.
@@ -102,12 +105,8 @@ fn outcome(function: Function, case: &Case) -> Outcome {
     function.written(set, &case.given.bytes)
 }
 
-/// The calls and the source of their inputs.
-struct Maker {
-    function: Function,
-    sheet: Sheet,
-    noise: Noise,
-}
+/// The calls of one of them.
+type Maker = super::Maker<Function>;
 
 impl Maker {
     /// Defines a signature of noise and its unpacked form, and gives its
@@ -140,21 +139,7 @@ impl Maker {
 
     /// Adds the call of a case, and gives its outcome.
     fn add(&mut self, label: String, case: Case) -> Outcome {
-        let outcome = outcome(self.function, &case);
-        let function = self.function.name();
-        let arguments = vec![Argument::Number(case.set), self.sheet.input(&case.given)];
-        let name = case.written;
-        let pieces = |bytes| self.sheet.pieces(&Lent { name, bytes });
-        let call = Call::with_pieces(
-            format!("{}-{label}", function.trim_start_matches("picnic_")),
-            function,
-            arguments,
-            case.output,
-            outcome.clone(),
-            pieces,
-        );
-        self.sheet.add(call);
-        outcome
+        add(&mut self.sheet, self.function, label, case)
     }
 
     /// What is not damaged, with outputs of just the needed length and longer.
@@ -281,6 +266,24 @@ impl Maker {
     }
 }
 
+/// Adds the call of a case to a sheet, and gives its outcome.
+pub fn add(sheet: &mut Sheet, function: Function, label: String, case: Case) -> Outcome {
+    let outcome = outcome(function, &case);
+    let arguments = vec![Argument::Number(case.set), sheet.input(&case.given)];
+    let name = case.written;
+    let pieces = |bytes| sheet.pieces(&Lent { name, bytes });
+    let call = Call::with_pieces(
+        format!("{}-{label}", function.name().trim_start_matches("picnic_")),
+        function.name(),
+        arguments,
+        case.output,
+        outcome.clone(),
+        pieces,
+    );
+    sheet.add(call);
+    outcome
+}
+
 /// Something wrong with the arguments.
 type Wrong = Fault<Case>;
 
@@ -301,11 +304,7 @@ fn faults(function: Function, set: &Set, values: &[u8]) -> Vec<Wrong> {
 
 /// The file of calls of a function.
 pub fn sheet(function: Function) -> Sheet {
-    let mut maker = Maker {
-        function,
-        sheet: Sheet::default(),
-        noise: Noise::new(SEED),
-    };
+    let mut maker = Maker::new(function, SEED);
     maker.examples();
     for set in &SETS {
         maker.set(set);

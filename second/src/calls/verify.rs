@@ -12,7 +12,6 @@ use super::statement::{self, define_tables, Pair, Shared};
 use super::strings::{field_ends, round_place, signature_faults};
 use super::{Argument, Call, Lent, Piece, Sheet};
 use crate::answers::{done, Refusal};
-use crate::noise::Noise;
 use crate::sets::{Set, LONGEST_MESSAGE, SALT_BYTES, SETS};
 use crate::signature::Signature;
 
@@ -39,7 +38,8 @@ pub type Verdict = Result<(), Refusal>;
 /// The arguments of a call.
 #[derive(Clone)]
 pub struct Case {
-    shared: Shared,
+    /// What it shares with signing.
+    pub shared: Shared,
     /// The signature.
     pub signature: Lent,
 }
@@ -52,23 +52,13 @@ fn verdict(case: &Case, sheet: &Sheet) -> Verdict {
 /// A change to what is signed, with its name.
 type Other<'a> = (&'a str, &'a dyn Fn(&mut Shared));
 
-/// The calls and the source of their inputs.
-pub struct Maker {
-    /// The calls.
-    pub sheet: Sheet,
-    /// The source.
-    pub noise: Noise,
-}
+/// picnic_verify.
+pub struct Function;
+
+/// The calls of it.
+pub type Maker = super::Maker<Function>;
 
 impl Maker {
-    /// No calls, and a source that starts at a seed.
-    pub fn new(seed: u64) -> Maker {
-        Maker {
-            sheet: Sheet::default(),
-            noise: Noise::new(seed),
-        }
-    }
-
     /// A case with a random pair and a valid signature, which is defined.
     pub fn case(&mut self, kind: &str, set: &Set, message: usize) -> Case {
         let pair = Pair::random(&self.sheet, kind, set, message, &mut self.noise);
@@ -77,7 +67,7 @@ impl Maker {
         let held = held.expect("nothing is wrong with it");
         let signature = pair.shared.statement(&held).sign(&pair.secret, &seeds);
         let signature = signature.expect("the keys are a pair and the limit is high");
-        let name = format!("signature-{}-{}", set.number, self.sheet.calls().len());
+        let name = format!("signature-{}-{}", set.number, self.sheet.names());
         self.sheet.define(&name, vec![Piece::Hex(signature)]);
         Case {
             shared: pair.shared,
@@ -258,7 +248,7 @@ fn faults(set: &Set, values: &[u8]) -> Vec<Wrong> {
 
 /// The file of calls of every kind.
 pub fn sheet() -> Sheet {
-    let mut maker = Maker::new(SEED);
+    let mut maker = Maker::new(Function, SEED);
     for set in &SETS {
         define_tables(&mut maker.sheet, set, &mut maker.noise);
         maker.valid(set);
@@ -276,24 +266,17 @@ pub fn sheet() -> Sheet {
 #[cfg(test)]
 mod tests {
     use super::*;
+    use crate::calls::tests::check_rooms;
 
     /// There are calls of every outcome, more of those that take long to
-    /// reach; a room is left zero by just those that got so far.
+    /// reach.
     #[test]
     fn the_sheet_has_calls_of_every_outcome() {
         let sheet = sheet();
-        let mut counts = [0; 13];
         for call in sheet.calls() {
-            let refusal = (call.answer >> 32) as usize;
-            counts[refusal] += 1;
-            let Argument::Written { length, start } = &call.arguments[7] else {
-                panic!("{}: no room", call.label);
-            };
-            let used = [0, 8, 12].contains(&refusal);
-            assert_eq!(!start.is_empty(), used, "{}", call.label);
-            assert!(sheet.bytes(start).len() <= *length, "{}", call.label);
             assert_eq!(call.answer & 0xffff_ffff, 0, "{}", call.label);
         }
+        let counts = check_rooms(&sheet, 7);
         for (refusal, &count) in counts.iter().enumerate() {
             let least = if refusal == 7 { 0 } else { 8 };
             assert!(count >= least, "{refusal}: {count}");

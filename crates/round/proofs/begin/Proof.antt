@@ -1,32 +1,30 @@
 -- `round::begin` meets its contract.
-use mathlib.Core.Path.{_∙_, ap}
-use Rattle.bits.specs.Bits.{Bits, _⊕_}
 use Rattle.bits.specs.Words.{blockBits}
+use Rattle.lowmc.specs.Lent.{cipherOf}
+use Rattle.round.specs.Engine.{share}
+use Rattle.round.proofs.SignerLaws.{begun-of}
 use borrow.Author.Needs.{needs}
 use Rattle.round.proofs.begin.Statement.{statement}
 use Rattle.round.proofs.begin.Tie as tie
 
-start-share-requires : tie.Need-start-share-requires
-start-share-requires c κs = search needs
+first-two-requires : tie.Need-first-two-requires
+first-two-requires c κs = search needs
 
-start-share-requires-2 : tie.Need-start-share-requires-2
-start-share-requires-2 c κs = search needs
+start-shares-requires : tie.Need-start-shares-requires
+start-shares-requires c κs = search needs
 
-xor-requires : tie.Need-xor-requires
-xor-requires c κs = search needs
-
-xor-requires-2 : tie.Need-xor-requires-2
-xor-requires-2 c κs = search needs
+with-third-requires : tie.Need-with-third-requires
+with-third-requires c κs = search needs
 
 returns : tie.Need-returns
 returns c =
-    record {
-      first = c .before .before .before .start-share .ensures;
-      second = c .before .before .start-share2 .ensures;
-      third = c .xor2 .ensures ∙ ap (λ (z : Bits). blockBits (c .before .before .before .before .before .before .before .before .before .args .whole) ⊕ z) (c .before .xor .ensures);
-    }
+    let a = c .before .before .before .before .before .before .args in
+    let C = cipherOf (a .p) (a .keys .now) (a .layers .now) (a .constants .now) in
+    let t = c .before .before .first-two .ensures in
+    let s = c .before .start-shares .ensures in
+    let x = c .with-third .ensures in
+    begun-of C (share (a .x)) _ (blockBits (a .whole)) _ _ _ _ (t .0) (t .1) (x .0) (x .1) (x .2) (blockBits (a .plain)) (s .0) (s .1)
 
 pub begin-spec : {M : Type 1} → statement M
 begin-spec =
-    tie.close
-    (tie.spec start-share-requires start-share-requires-2 xor-requires xor-requires-2 returns)
+    tie.close (tie.spec first-two-requires start-shares-requires with-third-requires returns)

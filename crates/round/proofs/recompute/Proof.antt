@@ -19,28 +19,25 @@ use Rattle.round.proofs.recompute.Statement.{statement}
 use Rattle.round.proofs.recompute.Tie as tie
 
 abbrev Inv-loop : tie.InvT-loop
-Inv-loop p keys layers constants e share1 share2 tape1 tape2 given r in1 in2 x₀ y₀ words₀ i₀ x y words i =
+Inv-loop p keys layers constants e tape1 tape2 given r in1 in2 shares s₀ words₀ i₀ s words i =
     (i ≤ r) × (r ≤ 38) × (r ≡ p .r) × (length words ≡ 40)
     × ((q : Bits) (j : Party)
     → Goes in1 in2 j
-    → blockBits x₀ ≡ start (cipherOf p keys layers constants) (blockBits share1) (cond in1 q zeros)
-    → blockBits y₀ ≡ start (cipherOf p keys layers constants) (blockBits share2) (cond in2 q zeros)
-    → Followed (cipherOf p keys layers constants) q j (opening share1 share2 tape1 tape2 given) i (blockBits x) (blockBits y) words)
+    → blockBits (s₀ .a) ≡ start (cipherOf p keys layers constants) (blockBits (shares .a)) (cond in1 q zeros)
+    → blockBits (s₀ .b) ≡ start (cipherOf p keys layers constants) (blockBits (shares .b)) (cond in2 q zeros)
+    → Followed (cipherOf p keys layers constants) q j (opening (shares .a) (shares .b) tape1 tape2 given) i (blockBits (s .a)) (blockBits (s .b)) words)
 
 abbrev μ-loop : tie.MeasureT-loop
-μ-loop p keys layers constants e share1 share2 tape1 tape2 given r in1 in2 x₀ y₀ words₀ i₀ x y words i = r - i
+μ-loop p keys layers constants e tape1 tape2 given r in1 in2 shares s₀ words₀ i₀ s words i = r - i
 
-start-share-requires : tie.Need-start-share-requires Inv-loop μ-loop
-start-share-requires c κs = search needs
-
-start-share-requires-2 : tie.Need-start-share-requires-2 Inv-loop μ-loop
-start-share-requires-2 c κs = search needs
+start-shares-requires : tie.Need-start-shares-requires Inv-loop μ-loop
+start-shares-requires c κs = search needs
 
 loop-holds : tie.Need-loop-holds Inv-loop μ-loop
 loop-holds c =
-    let a = c .before .before .before .before .before .args in
+    let a = c .before .before .before .before .args in
     let C = cipherOf (a .p) (a .keys .now) (a .layers .now) (a .constants .now) in
-    (search needs, most (λ (q : Set). q .r) 38 tt tt tt (c .before .before .before .before .before .pre .is-set), refl, search needs, λ q j h ex ey. followed-none C q j (opening (a .share1) (a .share2) (a .t9) (a .t10) (a .t11)) _ _ h 40 _ _ ex ey)
+    (search needs, most (λ (q : Set). q .r) 38 tt tt tt (c .before .before .before .before .pre .is-set), refl, search needs, λ q j h ex ey. followed-none C q j (opening (a .share1) (a .share2) (a .t9) (a .t10) (a .t11)) _ _ h 40 _ _ ex ey)
 
 mul-gate-row : tie.Need-mul-gate-row Inv-loop μ-loop
 mul-gate-row c = search needs
@@ -63,17 +60,14 @@ mul-words c = search needs
 array-write-words : tie.Need-array-write-words Inv-loop μ-loop
 array-write-words c = search needs
 
-advance-share-requires : tie.Need-advance-share-requires Inv-loop μ-loop
-advance-share-requires c κs = search needs
-
 mul-h : tie.Need-mul-h Inv-loop μ-loop
 mul-h c = search needs
 
 element-copy-out-h : tie.Need-element-copy-out-h Inv-loop μ-loop
 element-copy-out-h c = search needs
 
-advance-share-requires-2 : tie.Need-advance-share-requires-2 Inv-loop μ-loop
-advance-share-requires-2 c κs = search needs
+advance-shares-requires : tie.Need-advance-shares-requires Inv-loop μ-loop
+advance-shares-requires c κs = search needs
 
 add-i : tie.Need-add-i Inv-loop μ-loop
 add-i c = search needs
@@ -85,22 +79,24 @@ loop-again : tie.Need-loop-again Inv-loop μ-loop
 unfolding rowsOf
 loop-again c =
     let a = c .before .before .before .before .before .before .before .before .before .before .before .before .before .args in
-    let l = c .before .before .before .before .before .before .before .loop in
-    let C = cipherOf (a .p) (a .keys .now) (a .layers .now) (a .constants .now) in (
+    let l = c .before .before .before .before .before .before .before .before .loop in
+    let C = cipherOf (a .p) (a .keys .now) (a .layers .now) (a .constants .now) in
+    let s = c .advance-shares .ensures in (
       search needs,
       l .inv .1,
       l .inv .2,
       simp length-set (l .inv .3),
-      λ q j h ex ey. followed-more C q j (opening (a .share1) (a .share2) (a .t9) (a .t10) (a .t11)) _ _ h (l .i) (blockBits (l .x)) (blockBits (l .y)) _ _ _ (l .words) (omega (arith, l .inv .2, l .inv .3)) (c .before .before .before .gate-row .ensures) (c .before .before .advance-share .ensures) (c .advance-share2 .ensures) (l .inv .4 q j h ex ey),
+      λ q j h ex ey. followed-more C q j (opening (a .share1) (a .share2) (a .t9) (a .t10) (a .t11)) _ _ h (l .i) (blockBits (l .s .a)) (blockBits (l .s .b)) _ _ _ (l .words) (omega (arith, l .inv .2, l .inv .3)) (c .before .before .gate-row .ensures) (s .0) (s .1) (l .inv .4 q j h ex ey),
     )
 
 returns : tie.Need-returns Inv-loop μ-loop
 returns c =
-    let a = c .before .before .before .before .before .before .before .args in
-    let l = c .before .loop in
+    let a = c .before .before .before .before .before .before .before .before .args in
+    let l = c .before .before .before .loop in
     let C = cipherOf (a .p) (a .keys .now) (a .layers .now) (a .constants .now) in
     let e : l .i ≡ a .p .r = omega (arith, l .inv .0, l .inv .2) in
-    λ j h. followed-all C (blockBits (a .plain)) j (opening (a .share1) (a .share2) (a .t9) (a .t10) (a .t11)) (l .i) e _ (l .inv .4 (blockBits (a .plain)) j (goes (a .e) j h) (c .before .before .before .start-share .ensures) (c .before .before .start-share2 .ensures))
+    let s = c .before .before .before .before .start-shares .ensures in
+    λ j h. followed-all C (blockBits (a .plain)) j (opening (a .share1) (a .share2) (a .t9) (a .t10) (a .t11)) (l .i) e _ (l .inv .4 (blockBits (a .plain)) j (goes (a .e) j h) (s .0) (s .1))
 
 pub recompute-spec : {M : Type 1} → statement M
 recompute-spec =
@@ -108,8 +104,7 @@ recompute-spec =
     (tie.spec
     Inv-loop
     μ-loop
-    start-share-requires
-    start-share-requires-2
+    start-shares-requires
     loop-holds
     mul-gate-row
     element-copy-out-gate-row
@@ -118,10 +113,9 @@ recompute-spec =
     gate-row-requires
     mul-words
     array-write-words
-    advance-share-requires
     mul-h
     element-copy-out-h
-    advance-share-requires-2
+    advance-shares-requires
     add-i
     loop-less
     loop-again

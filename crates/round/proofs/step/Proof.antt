@@ -1,32 +1,40 @@
 -- `round::step` meets its contract.
-use mathlib.Core.Path.{_∙_, ap}
-use Rattle.bits.specs.Bits.{Bits, _⊕_}
 use Rattle.bits.specs.Words.{blockBits}
+use Rattle.lowmc.specs.Lent.{cipherOf}
+use Rattle.round.specs.Engine.{share, rowOf}
+use Rattle.round.proofs.SignerLaws.{stepped-of}
 use borrow.Author.Needs.{needs}
 use Rattle.round.proofs.step.Statement.{statement}
 use Rattle.round.proofs.step.Tie as tie
 
-advance-share-requires : tie.Need-advance-share-requires
-advance-share-requires c κs = search needs
+first-two-requires : tie.Need-first-two-requires
+first-two-requires c κs = search needs
 
-advance-share-requires-2 : tie.Need-advance-share-requires-2
-advance-share-requires-2 c κs = search needs
+first-two-requires-2 : tie.Need-first-two-requires-2
+first-two-requires-2 c κs = search needs
 
-xor-requires : tie.Need-xor-requires
-xor-requires c κs = search needs
+advance-shares-requires : tie.Need-advance-shares-requires
+advance-shares-requires c κs = search needs
 
-xor-requires-2 : tie.Need-xor-requires-2
-xor-requires-2 c κs = search needs
+with-third-requires : tie.Need-with-third-requires
+with-third-requires c κs = search needs
 
 returns : tie.Need-returns
 returns c =
-    record {
-      first = c .before .before .before .advance-share .ensures;
-      second = c .before .before .advance-share2 .ensures;
-      third = c .xor2 .ensures ∙ ap (λ (z : Bits). blockBits (c .before .before .before .before .before .before .before .before .before .before .before .args .whole) ⊕ z) (c .before .xor .ensures);
-    }
+    let a = c .before .before .before .before .before .before .before .args in
+    let C = cipherOf (a .p) (a .keys .now) (a .layers .now) (a .constants .now) in
+    let t = c .before .before .before .first-two .ensures in
+    let m = c .before .before .first-two2 .ensures in
+    let s = c .before .advance-shares .ensures in
+    let x = c .with-third .ensures in
+    stepped-of C (share (a .x)) _ (blockBits (a .whole)) _ _ _ _ (t .0) (t .1) (x .0) (x .1) (x .2) (a .i) (share (a .s)) (rowOf (a .g)) _ _ (m .0) (m .1) (s .0) (s .1)
 
 pub step-spec : {M : Type 1} → statement M
 step-spec =
     tie.close
-    (tie.spec advance-share-requires advance-share-requires-2 xor-requires xor-requires-2 returns)
+    (tie.spec
+    first-two-requires
+    first-two-requires-2
+    advance-shares-requires
+    with-third-requires
+    returns)
