@@ -1,11 +1,11 @@
--- Laws of rows that are written one after the other, and of a trace's states.
+-- Laws of rows that are written one after the other, and of states that are put.
 use mathlib.Core.Path.{_≡_, refl, ap, _∙_, subst⁻¹}
 use mathlib.Core.Logic.{⊎-elim}
 use mathlib.Core.Bool.{false}
 use mathlib.Core.List.{List, [], _∷_}
-use Prim.Native.Nat.{ℕ, zero, suc, _+_, _≤_, _<_}
+use Prim.Native.Nat.{ℕ, zero, suc, _+_, _*_, _≤_, _<_}
 use native.Mathlib.Omega.{arith}
-use lib.ListN.{length, getD, set, replicate}
+use lib.ListN.{length, getD, set, replicate, length-set}
 use lib.Seq.{getD-set-same, getD-set-other}
 use Rattle.bits.specs.Bits.{Bits, upTo}
 use Rattle.bits.specs.Words.{wordBits, listBits}
@@ -14,7 +14,7 @@ use Rattle.bits.proofs.BitsLaws.{upTo-out}
 use Rattle.bits.proofs.NumberLaws.{below}
 use Rattle.bits.proofs.WordsLaws.{zero-bits, list-past, four-words, holds-at}
 use Rattle.circuit.specs.Round.{Party, party0, party1, party2}
-use Rattle.round.specs.Engine.{Written}
+use Rattle.round.specs.Engine.{Written, stateOf}
 
 -- what holds of each party
 pub three : (P : Party → Type 0) → P party0 → P party1 → P party2 → (j : Party) → P j
@@ -80,26 +80,57 @@ written-cong m n t u ws h w = record { rowed = w .rowed; rows = λ i l. w .rows 
 pub four-of : (ws : List ℕ) → length ws ≡ 4 → listBits (getD ws 0 0 ∷ getD ws 1 0 ∷ getD ws 2 0 ∷ getD ws 3 0 ∷ []) ≡ listBits ws
 four-of ws h = four-words (listBits ws) _ _ _ _ (holds-at ws 0) (holds-at ws 1) (holds-at ws 2) (holds-at ws 3) (λ i l. list-past ws i (omega arith))
 
--- four words put at place i of four lists
-module _ (a b c d : List ℕ) (i : ℕ) (u v x y : ℕ) where
-  pub put-same : i < length a → i < length b → i < length c → i < length d
-      → listBits (getD (set a i u) i 0 ∷ getD (set b i v) i 0 ∷ getD (set c i x) i 0 ∷ getD (set d i y) i 0 ∷ []) ≡ listBits (u ∷ v ∷ x ∷ y ∷ [])
-  put-same ha hb hc hd =
-      let ea = getD-set-same a i u 0 ha in
-      let eb = getD-set-same b i v 0 hb in
-      let ec = getD-set-same c i x 0 hc in
-      let ed = getD-set-same d i y 0 hd in
-      λ k. listBits (ea k ∷ eb k ∷ ec k ∷ ed k ∷ [])
+-- four words put as state i, one after the other
+module _ (ws : List ℕ) (i u v x y : ℕ) where
+  abbrev one : List ℕ
+  one = set ws (4 * i) u
 
-  pub put-other : (j : ℕ) → (j ≡ i → ⊥)
-      → listBits (getD (set a i u) j 0 ∷ getD (set b i v) j 0 ∷ getD (set c i x) j 0 ∷ getD (set d i y) j 0 ∷ [])
-      ≡ listBits (getD a j 0 ∷ getD b j 0 ∷ getD c j 0 ∷ getD d j 0 ∷ [])
-  put-other j n =
-      let ea = getD-set-other a i j u 0 n in
-      let eb = getD-set-other b i j v 0 n in
-      let ec = getD-set-other c i j x 0 n in
-      let ed = getD-set-other d i j y 0 n in
-      λ k. listBits (ea k ∷ eb k ∷ ec k ∷ ed k ∷ [])
+  abbrev two : List ℕ
+  two = set one (4 * i + 1) v
+
+  abbrev most : List ℕ
+  most = set two (4 * i + 2) x
+
+  abbrev all : List ℕ
+  all = set most (4 * i + 3) y
+
+  -- a place that none of them has
+  away : (k : ℕ) → (k ≡ 4 * i → ⊥) → (k ≡ 4 * i + 1 → ⊥) → (k ≡ 4 * i + 2 → ⊥) → (k ≡ 4 * i + 3 → ⊥) → getD all k 0 ≡ getD ws k 0
+  away k a b c d =
+      getD-set-other most (4 * i + 3) k y 0 d
+      ∙ (getD-set-other two (4 * i + 2) k x 0 c ∙ (getD-set-other one (4 * i + 1) k v 0 b ∙ getD-set-other ws (4 * i) k u 0 a))
+
+  pub put-other : (k : ℕ) → (k ≡ i → ⊥) → stateOf all k ≡ stateOf ws k
+  put-other k n =
+      let ea = away (4 * k) (λ e. n (omega arith)) (λ e. omega arith) (λ e. omega arith) (λ e. omega arith) in
+      let eb = away (4 * k + 1) (λ e. omega arith) (λ e. n (omega arith)) (λ e. omega arith) (λ e. omega arith) in
+      let ec = away (4 * k + 2) (λ e. omega arith) (λ e. omega arith) (λ e. n (omega arith)) (λ e. omega arith) in
+      let ed = away (4 * k + 3) (λ e. omega arith) (λ e. omega arith) (λ e. omega arith) (λ e. n (omega arith)) in
+      λ z. listBits (ea z ∷ eb z ∷ ec z ∷ ed z ∷ [])
+
+  module _ (l : 4 * i + 4 ≤ length ws) where
+    first : getD all (4 * i) 0 ≡ u
+    first =
+        getD-set-other most (4 * i + 3) (4 * i) y 0 (λ e. omega arith)
+        ∙ (getD-set-other two (4 * i + 2) (4 * i) x 0 (λ e. omega arith)
+        ∙ (getD-set-other one (4 * i + 1) (4 * i) v 0 (λ e. omega arith) ∙ getD-set-same ws (4 * i) u 0 (omega arith)))
+
+    second : getD all (4 * i + 1) 0 ≡ v
+    second =
+        getD-set-other most (4 * i + 3) (4 * i + 1) y 0 (λ e. omega arith)
+        ∙ (getD-set-other two (4 * i + 2) (4 * i + 1) x 0 (λ e. omega arith)
+        ∙ getD-set-same one (4 * i + 1) v 0 (omega (arith, length-set ws (4 * i) u)))
+
+    third : getD all (4 * i + 2) 0 ≡ x
+    third =
+        getD-set-other most (4 * i + 3) (4 * i + 2) y 0 (λ e. omega arith)
+        ∙ getD-set-same two (4 * i + 2) x 0 (omega (arith, length-set ws (4 * i) u, length-set one (4 * i + 1) v))
+
+    fourth : getD all (4 * i + 3) 0 ≡ y
+    fourth = getD-set-same most (4 * i + 3) y 0 (omega (arith, length-set ws (4 * i) u, length-set one (4 * i + 1) v, length-set two (4 * i + 2) x))
+
+    pub put-same : stateOf all i ≡ listBits (u ∷ v ∷ x ∷ y ∷ [])
+    put-same = λ z. listBits (first z ∷ second z ∷ third z ∷ fourth z ∷ [])
 
 -- the first state, and one state more
 pub one-state : (f s : ℕ → Bits) → f 0 ≡ s 0 → (k : ℕ) → k ≤ 0 → f k ≡ s k

@@ -30,6 +30,11 @@ pub rows-of : (m n : ℕ) (f : Bits) (t : Rows) → t ≡ cut m (upTo (n * m) f)
 unfolding cut
 rows-of m n f t e i h = ap (λ (u : Rows). u i) e ∙ cut-in m n i f h
 
+-- the m bits from row i on are that row
+pub row-of : (m at i : ℕ) (f x : Bits) → x ≡ upTo m (from (at + i * m) f) → x ≡ cut m (from at f) i
+unfolding cut
+row-of m at i f x e = e ∙ upTo-cong m _ _ (λ j b. ap f (omega arith))
+
 module _ (p : Set) (k : ℕ) (tape : Bytes) (ws : List ℕ) where
   -- party 2's rows begin at bit 0
   pub taped-two : k ≡ 2 → ((i : ℕ) → i < p .r → rowsOf ws i ≡ cut (3 * p .s) (from 0 (bitsOf tape)) i) → (j : Party) → k ≡ number j → Taped p j tape ws
@@ -87,16 +92,17 @@ written-bytes m n t ws p w =
 
 -- ---- the numbers of a set
 
--- rows have 8 to 57 bits and are fewer than 40, and a block has at most 256 bits
+-- rows have 8 to 57 bits and are fewer than 40, together they have at most 1140 bits, and a block has at most 256
 pub record Room (p : Set) : Type 0 where
   pub least : 8 ≤ 3 * p .s
   pub most : 3 * p .s ≤ 57
   pub rows : p .r < 40
+  pub gates : p .r * (3 * p .s) ≤ 1140
   pub block : p .n ≤ 256
 
 pub room : {p : Set} → IsSet p → Room p
 room =
     each Room
-    (record { least = omega arith; most = omega arith; rows = omega arith; block = omega arith })
-    (record { least = omega arith; most = omega arith; rows = omega arith; block = omega arith })
-    (record { least = omega arith; most = omega arith; rows = omega arith; block = omega arith })
+    (record { least = omega arith; most = omega arith; rows = omega arith; gates = omega arith; block = omega arith })
+    (record { least = omega arith; most = omega arith; rows = omega arith; gates = omega arith; block = omega arith })
+    (record { least = omega arith; most = omega arith; rows = omega arith; gates = omega arith; block = omega arith })

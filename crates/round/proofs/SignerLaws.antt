@@ -1,9 +1,8 @@
--- Laws of the signer's loop: three parties' states and transcripts after i rounds, and the trace that gives the third state.
-use mathlib.Core.Path.{_≡_, refl, sym, ap, _∙_, subst}
+-- Laws of the signer's loop: three parties' states and transcripts after i rounds, and the encryption's state that gives the third.
+use mathlib.Core.Path.{_≡_, sym, ap, _∙_, subst}
 use mathlib.Core.List.{List}
-use Prim.Native.Nat.{ℕ, zero, suc, _+_, _*_, _≤_, _<_}
+use Prim.Native.Nat.{ℕ, _+_, _*_, _≤_, _<_}
 use native.Mathlib.Omega.{arith}
-use native.Mathlib.Nat.{le-refl}
 use native.Mathlib.Numerals.{add-one}
 use lib.ListN.{length, set, replicate}
 use Rattle.bits.specs.Bits.{Bits, _⊕_, zeros, upTo}
@@ -14,12 +13,12 @@ use Rattle.circuit.specs.Lowmc.{Cipher, start, stateAfter}
 use Rattle.circuit.specs.Round.{Party, party0, party1, party2, next, gates, advance, intoShare, stateShare, transcript, outputShare}
 use Rattle.circuit.specs.RoundTheorems.{xor3}
 use Rattle.circuit.proofs.RoundLaws.{signer-follows}
-use Rattle.round.specs.Engine.{Written, Simulated, share, words}
+use Rattle.round.specs.Engine.{Written, Simulated, share, said}
 use Rattle.round.specs.Inner.{Begun, Stepped}
 use Rattle.round.specs.Inputs.{byParty}
 use Rattle.round.specs.declared.View.{View}
 use Rattle.round.proofs.GateLaws.{advance-row}
-use Rattle.round.proofs.EngineLaws.{three, written-none, written-more, written-cong}
+use Rattle.round.proofs.EngineLaws.{three, written-none, written-more}
 
 -- what two shares lack of the whole is the third
 third-of : (w a b c a′ b′ z : Bits) → a ⊕ b ⊕ c ≡ w → a′ ≡ a → b′ ≡ b → z ≡ w ⊕ a′ ⊕ b′ → z ≡ c
@@ -103,42 +102,14 @@ module _ (C : Cipher) (p : Bits) (x : Party → Bits) (t : Party → Rows) where
       }
 
   -- all rounds
-  pub done-all : (i : ℕ) → i ≡ C .r → (v : View) → Done C p x t i (share (v .out)) (v .said .a .words) (v .said .b .words) (v .said .c .words)
+  pub done-all : (i : ℕ) → i ≡ C .r → (v : View) → Done C p x t i (share (v .out)) (v .a .words) (v .b .words) (v .c .words)
       → Simulated C p x t v
   unfolding outputShare
   done-all i q v d = record {
     outputs = λ j. d .states j ∙ ap (λ (k : ℕ). stateShare C p x t k j) q;
-    transcripts = three (λ j. Written (3 * C .s) (C .r) (transcript C p x t j) (words (v .said) j))
+    transcripts = three (λ j. Written (3 * C .s) (C .r) (transcript C p x t j) (said v j))
         (at party0 (d .rows party0)) (at party1 (d .rows party1)) (at party2 (d .rows party2));
   }
     where
       at : (j : Party) {ws : List ℕ} → Written (3 * C .s) i (transcript C p x t j) ws → Written (3 * C .s) (C .r) (transcript C p x t j) ws
       at j {ws} h = subst (λ (k : ℕ). Written (3 * C .s) k (transcript C p x t j) ws) q h
-
--- ---- a simulation asks for the first r rows of the tapes alone
-module _ (C : Cipher) (p : Bits) (x : Party → Bits) (t u : Party → Rows) (h : (j : Party) (i : ℕ) → i < C .r → t j i ≡ u j i) where
-  states-same : (i : ℕ) → i ≤ C .r → (j : Party) → stateShare C p x t i j ≡ stateShare C p x u i j
-  unfolding stateShare
-  states-same zero l j = refl
-  states-same (suc i) l j =
-      let a = states-same i (omega arith) j in
-      let b = states-same i (omega arith) (next j) in
-      let v = h j i (omega arith) in
-      let w = h (next j) i (omega arith) in
-      λ k. advance C i (x j) (intoShare j (C .roundconstant i)) (a k) (gates (a k) (b k) (v k) (w k))
-
-  rows-same : (j : Party) (i : ℕ) → i < C .r → transcript C p x t j i ≡ transcript C p x u j i
-  unfolding transcript
-  rows-same j i l =
-      let a = states-same i (omega arith) j in
-      let b = states-same i (omega arith) (next j) in
-      let v = h j i l in
-      let w = h (next j) i l in
-      λ k. gates (a k) (b k) (v k) (w k)
-
-  pub simulated-cong : (v : View) → Simulated C p x t v → Simulated C p x u v
-  unfolding outputShare
-  simulated-cong v d = record {
-    outputs = λ j. d .outputs j ∙ states-same (C .r) (le-refl (C .r)) j;
-    transcripts = λ j. written-cong _ _ _ _ _ (rows-same j) (d .transcripts j);
-  }

@@ -1,7 +1,7 @@
--- What the engine's values say: shares, rows of gates and tapes by party; and what a simulation and a recomputation leave.
+-- What the engine's values say: shares and rows of gates by party; and what a simulation and a recomputation leave.
 use mathlib.Core.Path.{_≡_}
 use mathlib.Core.List.{List, [], _∷_}
-use Prim.Native.Nat.{ℕ, _*_, _<_, _≤_}
+use Prim.Native.Nat.{ℕ, _+_, _*_, _<_, _≤_}
 use lib.ListN.{getD}
 use Rattle.bits.specs.Bits.{Bits, upTo}
 use Rattle.bits.specs.Words.{wordBits, listBits, blockBits}
@@ -12,8 +12,6 @@ use Rattle.circuit.specs.Lowmc.{Cipher, stateAfter}
 use Rattle.circuit.specs.Round.{Party, party0, party1, party2, transcript, outputShare, Opening, transcript₁, output₁, output₂}
 use Rattle.round.specs.declared.Shares.{Shares}
 use Rattle.round.specs.declared.Gates.{Gates}
-use Rattle.round.specs.declared.Tapes.{Tapes}
-use Rattle.round.specs.declared.Trace.{Trace}
 use Rattle.round.specs.declared.View.{View}
 use Rattle.round.specs.declared.Again.{Again}
 
@@ -33,16 +31,6 @@ word g party2 = g .c
 abbrev pub rowOf : Gates → Party → Bits
 rowOf g j = wordBits (word g j)
 
--- the words of a party's rows
-abbrev pub words : Tapes → Party → List ℕ
-words t party0 = t .a .words
-words t party1 = t .b .words
-words t party2 = t .c .words
-
--- a party's rows
-abbrev pub tape : Tapes → Party → Rows
-tape t j = rowsOf (words t j)
-
 -- words that hold the first n rows of t, m bits each, and nothing else
 pub record Written (m n : ℕ) (t : Rows) (ws : List ℕ) : Type 0 where
   pub rowed : Rowed m n ws
@@ -50,18 +38,24 @@ pub record Written (m n : ℕ) (t : Rows) (ws : List ℕ) : Type 0 where
 
 -- ---- the signer
 
--- the state after i rounds that a trace holds
-abbrev pub stateOf : Trace → ℕ → Bits
-stateOf t i = listBits (getD (t .a) i 0 ∷ getD (t .b) i 0 ∷ getD (t .c) i 0 ∷ getD (t .d) i 0 ∷ [])
+-- the state after i rounds among all states, each of four words
+abbrev pub stateOf : List ℕ → ℕ → Bits
+stateOf ws i = listBits (getD ws (4 * i) 0 ∷ getD ws (4 * i + 1) 0 ∷ getD ws (4 * i + 2) 0 ∷ getD ws (4 * i + 3) 0 ∷ [])
 
--- a trace holds the states of the encryption of p under the key
-abbrev pub Traced : Cipher → (key p : Bits) → Trace → Type 0
-Traced C key p t = (i : ℕ) → i ≤ C .r → stateOf t i ≡ stateAfter C key p i
+-- words that hold the states of the encryption of p under the key
+abbrev pub Traced : Cipher → (key p : Bits) → List ℕ → Type 0
+Traced C key p ws = (i : ℕ) → i ≤ C .r → stateOf ws i ≡ stateAfter C key p i
+
+-- the words of the transcript that a simulation leaves for a party
+abbrev pub said : View → Party → List ℕ
+said v party0 = v .a .words
+said v party1 = v .b .words
+said v party2 = v .c .words
 
 -- a simulation's output shares and transcripts
 pub record Simulated (C : Cipher) (p : Bits) (x : Party → Bits) (t : Party → Rows) (v : View) : Type 0 where
   pub outputs : (j : Party) → share (v .out) j ≡ outputShare C p x t j
-  pub transcripts : (j : Party) → Written (3 * C .s) (C .r) (transcript C p x t j) (words (v .said) j)
+  pub transcripts : (j : Party) → Written (3 * C .s) (C .r) (transcript C p x t j) (said v j)
 
 -- ---- the verifier
 

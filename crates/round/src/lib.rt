@@ -4,6 +4,7 @@ ghost use mathlib.Core.Path.{_≡_};
 ghost use mathlib.Core.Bool.{cond};
 ghost use Prim.Native.Nat.{ℕ, _*_, _≤_, _<_};
 ghost use lib.ListN.{length};
+ghost use Rattle.slices.specs.Slices.{Bytes};
 ghost use Rattle.bits.specs.Bits.{_⊕_, zeros, upTo, from};
 ghost use Rattle.bits.specs.Bytes.{bitsOf, bytesOf};
 ghost use Rattle.bits.specs.Words.{wordBits, blockBits};
@@ -16,9 +17,9 @@ ghost use Rattle.circuit.specs.Round.{Party, party0, party1, party2, next, gate
 ghost use Rattle.circuit.specs.RoundTheorems.{xor3};
 ghost use Rattle.circuit.specs.Tapes.{number};
 ghost use Rattle.lowmc.specs.Lent.{cipherOf, Lent};
-ghost use Rattle.round.specs.Engine.{share, words, rowOf, tape, Written, opening, Recomputed, stateOf, Traced, Simulated};
+ghost use Rattle.round.specs.Engine.{share, rowOf, Written, opening, Recomputed, stateOf, Traced, Simulated};
 ghost use Rattle.round.specs.Inner.{Begun, Stepped};
-ghost use Rattle.round.specs.Inputs.{byParty, inputShare, Taped, tapesOf, openingOf};
+ghost use Rattle.round.specs.Inputs.{inputShare, Taped, tapesOf, openingOf};
 use bits::Block;
 use bits::Strip;
 use lowmc::Pair;
@@ -36,13 +37,6 @@ pub struct Gates {
     pub a: u64,
     pub b: u64,
     pub c: u64,
-}
-
-// Rows for each party.
-pub struct Tapes {
-    pub a: Strip,
-    pub b: Strip,
-    pub c: Strip,
 }
 
 // The first m places of a word.
@@ -78,21 +72,6 @@ fn gate_rows(p: Set, s: Shares, t: Gates) -> Gates
         a: gate_row(p, x, y, t.a, t.b),
         b: gate_row(p, y, z, t.b, t.c),
         c: gate_row(p, z, x, t.c, t.a),
-    }
-}
-
-// Row i of each tape.
-fn rows_at(t: Tapes, i: usize) -> Gates
-    requires { ⌜ i < 40 ⌝ }
-    ensures { λ r. ⌜ ((j : Party) → rowOf r j ≡ tape t j i) ⌝ }
-{
-    let a = t.a;
-    let b = t.b;
-    let c = t.c;
-    Gates {
-        a: a.words[i],
-        b: b.words[i],
-        c: c.words[i],
     }
 }
 
@@ -229,40 +208,30 @@ pub fn recompute(
     }
 }
 
-// The encryption's states: a, b, c, d have the four words of the state after each round.
-pub struct Trace {
-    pub a: [u64; 40],
-    pub b: [u64; 40],
-    pub c: [u64; 40],
-    pub d: [u64; 40],
+// The state after i rounds of an encryption, from all its states: each is four words.
+pub fn state_at(states: &[u64], i: usize) -> Block
+    requires { ⌜ (i < 40) × (length (now states) ≡ 160) ⌝ }
+    ensures { λ r. ⌜ blockBits r ≡ stateOf (now (states .entry)) i ⌝ }
+{
+    let at = 4 * i;
+    Block {
+        words: [states[at], states[at + 1], states[at + 2], states[at + 3]],
+    }
 }
 
-impl Trace {
-    // The state after i rounds.
-    pub fn at(self, i: usize) -> Block
-        requires { ⌜ i < 40 ⌝ }
-        ensures { λ r. ⌜ blockBits r ≡ stateOf self i ⌝ }
-    {
-        Block {
-            words: [self.a[i], self.b[i], self.c[i], self.d[i]],
-        }
-    }
-
-    // x put as the state after i rounds.
-    fn put(self, i: usize, x: Block) -> Self
-        requires { ⌜ i < 40 ⌝ }
-        ensures { λ r. ⌜ (stateOf r i ≡ blockBits x) × ((k : ℕ) → (k ≡ i → ⊥) → stateOf r k ≡ stateOf self k) ⌝ }
-    {
-        let mut a = self.a;
-        let mut b = self.b;
-        let mut c = self.c;
-        let mut d = self.d;
-        a[i] = x.words[0];
-        b[i] = x.words[1];
-        c[i] = x.words[2];
-        d[i] = x.words[3];
-        Trace { a, b, c, d }
-    }
+// x put as the state after i rounds.
+fn put_state(states: &mut [u64], i: usize, x: Block)
+    requires { ⌜ (i < 40) × (length (now states) ≡ 160) ⌝ }
+    ensures { λ _. ⌜
+        (stateOf (now (states .exit)) i ≡ blockBits x)
+        × ((k : ℕ) → (k ≡ i → ⊥) → stateOf (now (states .exit)) k ≡ stateOf (now (states .entry)) k)
+        ⌝ }
+{
+    let at = 4 * i;
+    states[at] = x.words[0];
+    states[at + 1] = x.words[1];
+    states[at + 2] = x.words[2];
+    states[at + 3] = x.words[3];
 }
 
 // The encryption of a block under a key with all its states, computed once for all rounds of a signature.
@@ -273,26 +242,20 @@ pub fn all_states(
     constants: &[u8],
     key: Block,
     block: Block,
-) -> Trace
-    requires { ⌜ Lent p (now keys) (now layers) (now constants) ⌝ }
-    ensures { λ r. ⌜ Traced (cipherOf p (now (keys .entry)) (now (layers .entry)) (now (constants .entry))) (blockBits key) (blockBits block) r ⌝ }
+    states: &mut [u64],
+)
+    requires { ⌜ Lent p (now keys) (now layers) (now constants) × (length (now states) ≡ 160) ⌝ }
+    ensures { λ _. ⌜ Traced (cipherOf p (now (keys .entry)) (now (layers .entry)) (now (constants .entry))) (blockBits key) (blockBits block) (now (states .exit)) ⌝ }
 {
     let r = p.r;
-    let none = Trace {
-        a: [0; 40],
-        b: [0; 40],
-        c: [0; 40],
-        d: [0; 40],
-    };
     let mut x = lowmc::start(p, keys, key, block);
-    let mut t = none.put(0, x);
+    put_state(states, 0, x);
     let mut i = 0;
     while i < r {
         x = lowmc::step(p, keys, layers, constants, i, key, x);
         i += 1;
-        t = t.put(i, x);
+        put_state(states, i, x);
     }
-    t
 }
 
 // The blocks of the first two parties.
@@ -356,13 +319,37 @@ fn step(
     with_third(y, whole)
 }
 
+// Row i of gates, where they begin at bit at of s.
+fn row_from(p: Set, s: &[u8], at: usize, i: usize) -> u64
+    requires { ⌜ IsSet p × (at ≤ p .n) × (i < p .r) ⌝ }
+    ensures { λ r. ⌜ wordBits r ≡ cut (3 * p .s) (from at (bitsOf (now (s .entry)))) i ⌝ }
+{
+    let m = 3 * p.s;
+    bits::read_row(s, at + i * m, m)
+}
+
+// Row i of each tape: gates begin at bit n of tapes 0 and 1, at bit 0 of tape 2.
+fn rows_at(p: Set, t0: &[u8], t1: &[u8], t2: &[u8], i: usize) -> Gates
+    requires { ⌜ IsSet p × (i < p .r) ⌝ }
+    ensures { λ r. ⌜ ((keys layers constants : Bytes) (j : Party)
+        → rowOf r j ≡ tapesOf (cipherOf p keys layers constants) (now (t0 .entry)) (now (t1 .entry)) (now (t2 .entry)) j i) ⌝ }
+{
+    Gates {
+        a: row_from(p, t0, p.n, i),
+        b: row_from(p, t1, p.n, i),
+        c: row_from(p, t2, 0, i),
+    }
+}
+
 // What a simulation leaves: the output shares and the transcripts.
 pub struct View {
     pub out: Shares,
-    pub said: Tapes,
+    pub a: Strip,
+    pub b: Strip,
+    pub c: Strip,
 }
 
-// The signer's simulation: input shares, the rows of the tapes, and the states of the encryption under the key that is shared.
+// The signer's simulation: input shares, the tapes, and the states of the encryption under the key that is shared.
 pub fn simulate(
     p: Set,
     keys: &[u8],
@@ -370,36 +357,37 @@ pub fn simulate(
     constants: &[u8],
     x: Shares,
     plain: Block,
-    t: Tapes,
-    states: Trace,
+    t0: &[u8],
+    t1: &[u8],
+    t2: &[u8],
+    states: &[u64],
 ) -> View
     requires { ⌜ Lent p (now keys) (now layers) (now constants)
-        × Traced (cipherOf p (now keys) (now layers) (now constants)) (xor3 (share x)) (blockBits plain) states ⌝ }
-    ensures { λ r. ⌜ Simulated (cipherOf p (now (keys .entry)) (now (layers .entry)) (now (constants .entry))) (blockBits plain) (share x) (tape t) r ⌝ }
+        × Traced (cipherOf p (now keys) (now layers) (now constants)) (xor3 (share x)) (blockBits plain) (now states) × (length (now states) ≡ 160) ⌝ }
+    ensures { λ r. ⌜ Simulated (cipherOf p (now (keys .entry)) (now (layers .entry)) (now (constants .entry))) (blockBits plain) (share x)
+        (tapesOf (cipherOf p (now (keys .entry)) (now (layers .entry)) (now (constants .entry))) (now (t0 .entry)) (now (t1 .entry)) (now (t2 .entry))) r ⌝ }
 {
     let r = p.r;
-    let mut s = begin(p, keys, layers, constants, x, plain, states.at(0));
+    let mut s = begin(p, keys, layers, constants, x, plain, state_at(states, 0));
     let mut a = [0u64; 40];
     let mut b = [0u64; 40];
     let mut c = [0u64; 40];
     let mut i = 0;
     while i < r {
-        let g = gate_rows(p, s, rows_at(t, i));
+        let g = gate_rows(p, s, rows_at(p, t0, t1, t2, i));
         a[i] = g.a;
         b[i] = g.b;
         c[i] = g.c;
-        s = step(p, keys, layers, constants, i, x, s, g, states.at(i + 1));
+        let whole = state_at(states, i + 1);
+        s = step(p, keys, layers, constants, i, x, s, g, whole);
         i += 1;
     }
-    let ta = Strip { words: a };
-    let tb = Strip { words: b };
-    let tc = Strip { words: c };
-    let said = Tapes {
-        a: ta,
-        b: tb,
-        c: tc,
-    };
-    View { out: s, said }
+    View {
+        out: s,
+        a: Strip { words: a },
+        b: Strip { words: b },
+        c: Strip { words: c },
+    }
 }
 
 // The rows of gates from bit at of s on.
@@ -419,17 +407,6 @@ pub fn tape_rows(p: Set, k: usize, tape: &[u8]) -> Strip
         return rows_from(p, tape, 0);
     }
     rows_from(p, tape, p.n)
-}
-
-// The rows of the three tapes.
-pub fn read_tapes(p: Set, t0: &[u8], t1: &[u8], t2: &[u8]) -> Tapes
-    requires { ⌜ IsSet p ⌝ }
-    ensures { λ r. ⌜ ((j : Party) → Taped p j (byParty (now (t0 .entry)) (now (t1 .entry)) (now (t2 .entry)) j) (words r j)) ⌝ }
-{
-    let a = tape_rows(p, 0, t0);
-    let b = tape_rows(p, 1, t1);
-    let c = tape_rows(p, 2, t2);
-    Tapes { a, b, c }
 }
 
 // The share that is the first n bits of a tape.
@@ -458,28 +435,6 @@ pub fn write_rows(p: Set, t: Strip, s: &mut [u8])
     ensures { λ _. ⌜ ((u : Rows) → Written (3 * p .s) (p .r) u (t .words) → now (s .exit) ≡ bytesOf (3 * p .s * p .r) (flat (3 * p .s) u)) ⌝ }
 {
     t.write(3 * p.s, p.r, s);
-}
-
-// The signer's simulation from the bytes of the tapes.
-pub fn simulate_tapes(
-    p: Set,
-    keys: &[u8],
-    layers: &[u8],
-    constants: &[u8],
-    x: Shares,
-    plain: Block,
-    t0: &[u8],
-    t1: &[u8],
-    t2: &[u8],
-    states: Trace,
-) -> View
-    requires { ⌜ Lent p (now keys) (now layers) (now constants)
-        × Traced (cipherOf p (now keys) (now layers) (now constants)) (xor3 (share x)) (blockBits plain) states ⌝ }
-    ensures { λ r. ⌜ Simulated (cipherOf p (now (keys .entry)) (now (layers .entry)) (now (constants .entry))) (blockBits plain) (share x)
-        (tapesOf (cipherOf p (now (keys .entry)) (now (layers .entry)) (now (constants .entry))) (now (t0 .entry)) (now (t1 .entry)) (now (t2 .entry))) r ⌝ }
-{
-    let t = read_tapes(p, t0, t1, t2);
-    simulate(p, keys, layers, constants, x, plain, t, states)
 }
 
 // The verifier's recomputation from the bytes of two tapes and of a transcript.

@@ -1,24 +1,24 @@
 -- Laws of a round that is played: which party a number names, and what it has on words and in bytes.
 use mathlib.Core.Path.{_≡_, refl, sym, ap, _∙_, subst}
 use mathlib.Core.Bool.{false}
+use mathlib.Core.List.{List}
 use Prim.Native.Nat.{ℕ, zero, suc, _*_, _≤_, _<_}
 use native.Mathlib.Omega.{arith}
-use lib.ListN.{length}
+use lib.ListN.{length, take}
 use Rattle.slices.specs.Slices.{Bytes}
 use Rattle.bits.specs.Bits.{Bits, _⊻_, _⊕_}
 use Rattle.bits.specs.Bytes.{bitsOf, bytesOf, width}
-use Rattle.bits.specs.Rows.{flat}
+use Rattle.bits.specs.Rows.{Rows, flat}
 use Rattle.bits.proofs.BitsLaws.{upTo-out, upTo-is}
 use Rattle.bits.proofs.BytesLaws.{bits-past, bits-of-bytesOf, length-bytesOf}
 use Rattle.sets.specs.declared.Set.{Set}
 use Rattle.sets.specs.Sets.{IsSet}
 use Rattle.circuit.specs.Lowmc.{Cipher, stateAfter}
-use Rattle.circuit.specs.Round.{Party, party0, party1, party2, transcript}
-use Rattle.circuit.specs.Tapes.{number}
+use Rattle.circuit.specs.Round.{Party, party0, party1, party2}
+use Rattle.circuit.specs.Tapes.{number, gateBits}
 use Rattle.round.specs.declared.Shares.{Shares}
-use Rattle.round.specs.declared.Trace.{Trace}
 use Rattle.round.specs.declared.View.{View}
-use Rattle.round.specs.Engine.{share, Traced, Simulated}
+use Rattle.round.specs.Engine.{share, said, Written, Traced, Simulated}
 use Rattle.round.specs.Inputs.{byParty, inputShare, tapesOf}
 use Rattle.hashing.specs.Hashing.{commitment}
 use Rattle.challenge.proofs.BlocksLaws.{length-h}
@@ -26,7 +26,7 @@ use Rattle.views.specs.Parties.{three}
 use Rattle.views.specs.Signed.{shares, shareBits, gateRows, outputs, transcripts, tapes, commitments}
 use Rattle.room.proofs.LengthLaws.{length-three}
 use Rattle.signer.specs.declared.Played.{Played}
-use Rattle.signer.specs.Played.{PlayedAs}
+use Rattle.signer.specs.Played.{saidBy, PlayedAs}
 
 -- ---- which party a number names
 
@@ -70,8 +70,8 @@ kept n secret t0 t1 l j = upTo-is n _ _ (λ i b. refl) (past n secret t0 t1 l j)
 
 -- ---- a round over tapes
 
--- a trace of the same encryption
-pub traced-as : (C : Cipher) (k k′ b b′ : Bits) (t : Trace) → k′ ≡ k → b′ ≡ b → Traced C k b t → Traced C k′ b′ t
+-- states of the same encryption
+pub traced-as : (C : Cipher) (k k′ b b′ : Bits) (t : List ℕ) → k′ ≡ k → b′ ≡ b → Traced C k b t → Traced C k′ b′ t
 traced-as C k k′ b b′ t ek eb h i l = h i l ∙ λ z. stateAfter C (sym ek z) (sym eb z) i
 
 module _ (C : Cipher) (secret t0 t1 t2 : Bytes) (fits : 8 * length secret ≤ C .n) (x : Shares)
@@ -81,18 +81,20 @@ module _ (C : Cipher) (secret t0 t1 t2 : Bytes) (fits : 8 * length secret ≤ C 
   unfolding shares
   share-bits = λ k j. (hx j ∙ kept (C .n) secret t0 t1 fits j) k
 
-  -- what a simulation leaves is the round in bytes
+  -- what a simulation leaves is the round in bytes: r has its shares, and the bytes of its transcripts
   pub played-as : (block : Bytes) (plain : Bits) → plain ≡ bitsOf block → (v : View) → Simulated C plain (share x) (tapesOf C t0 t1 t2) v
-      → PlayedAs C secret (byParty t0 t1 t2) block record { inputs = x; outputs = v .out; said = v .said }
-  unfolding shares outputs
-  played-as block plain e v h =
+      → (r : Played) → r .inputs ≡ x → r .outputs ≡ v .out
+      → ((j : Party) (u : Rows) → Written (3 * C .s) (C .r) u (said v j) → take (width (gateBits C)) (saidBy r j) ≡ bytesOf (gateBits C) (flat (3 * C .s) u))
+      → PlayedAs C secret (byParty t0 t1 t2) block r
+  unfolding shares outputs transcripts
+  played-as block plain e v h r ei eo es =
       let s : Simulated C (bitsOf block) (shareBits C secret (byParty t0 t1 t2)) (gateRows C secret (byParty t0 t1 t2)) v =
       subst (λ (z : Party → Bits). Simulated C (bitsOf block) z (tapesOf C t0 t1 t2) v) share-bits
       (subst (λ (b : Bits). Simulated C b (share x) (tapesOf C t0 t1 t2) v) e h) in
       record {
-        inputs = λ j. ap (bytesOf (C .n)) (hx j);
-        outputs = λ j. ap (bytesOf (C .n)) (s .outputs j);
-        said = s .transcripts;
+        inputs = λ j. ap (λ (z : Shares). bytesOf (C .n) (share z j)) ei ∙ ap (bytesOf (C .n)) (hx j);
+        outputs = λ j. ap (λ (z : Shares). bytesOf (C .n) (share z j)) eo ∙ ap (bytesOf (C .n)) (s .outputs j);
+        said = λ j. es j _ (s .transcripts j);
       }
 
 -- the same tapes, party by party, and the same block
@@ -108,16 +110,13 @@ played-over C secret t0 t1 t2 tapes b block r e0 e1 e2 e h =
 -- ---- commitments
 
 -- what is hashed for party k of a round that is played, from its parts
-pub commitment-as : (p : Set) (C : Cipher) (salt : Bytes) (t : ℕ) (seeds : Party → Bytes) (secret block : Bytes) (r : Played) (k : Party) {seed : Bytes} {x y : Bits} {d : Bytes}
-    → PlayedAs C secret (tapes p C salt t seeds) block r → seed ≡ seeds k → x ≡ share (r .inputs) k → y ≡ share (r .outputs) k
-    → d ≡ commitment p seed (bytesOf (C .n) x)
-    (bytesOf (3 * C .s * C .r) (flat (3 * C .s)
-    (transcript C (bitsOf block) (shareBits C secret (tapes p C salt t seeds)) (gateRows C secret (tapes p C salt t seeds)) k)))
-    (bytesOf (C .n) y)
+pub commitment-as : (p : Set) (C : Cipher) (salt : Bytes) (t : ℕ) (seeds : Party → Bytes) (secret block : Bytes) (r : Played) (k : Party) {seed s : Bytes} {x y : Bits} {d : Bytes}
+    → PlayedAs C secret (tapes p C salt t seeds) block r → seed ≡ seeds k → x ≡ share (r .inputs) k → s ≡ saidBy r k → y ≡ share (r .outputs) k
+    → d ≡ commitment p seed (bytesOf (C .n) x) (take (width (gateBits C)) s) (bytesOf (C .n) y)
     → d ≡ commitments p C salt t seeds secret block k
-unfolding commitments transcripts
-commitment-as p C salt t seeds secret block r k h es ex ey e =
-    e ∙ λ i. commitment p (es i) ((ap (bytesOf (C .n)) ex ∙ h .inputs k) i) (transcripts C secret (tapes p C salt t seeds) block k)
+unfolding commitments
+commitment-as p C salt t seeds secret block r k h ed ex es ey e =
+    e ∙ λ i. commitment p (ed i) ((ap (bytesOf (C .n)) ex ∙ h .inputs k) i) ((ap (take (width (gateBits C))) es ∙ h .said k) i)
     ((ap (bytesOf (C .n)) ey ∙ h .outputs k) i)
 
 pub length-outputs : (C : Cipher) (secret : Bytes) (tapes : Party → Bytes) (block : Bytes) → length (three (outputs C secret tapes block)) ≡ 3 * width (C .n)

@@ -26,7 +26,6 @@ use Rattle.circuit.specs.Round.{Party}
 use Rattle.lowmc.specs.Lent.{cipherOf, Lent}
 use Rattle.lowmc.specs.Encrypted.{encrypted}
 use Rattle.lowmc.proofs.LentLaws.{block-small}
-use Rattle.round.specs.declared.Trace.{Trace}
 use Rattle.round.specs.Engine.{stateOf, Traced}
 use Rattle.hashing.specs.Hashing.{h}
 use Rattle.challenge.specs.declared.Filled.{Filled}
@@ -56,7 +55,7 @@ plaintext-small {p} i public m e q =
     block-small i (take (length public - m) (drop m public)) (ap length (rest-as public m (w p) e) ∙ (length-drop (w p) public ∙ omega arith))
 
 -- what is compared is the encryption and the ciphertext, where m is the code's width
-pub paired-is : (p : Set) (states : Trace) (public cs : Bytes) (x : Bits) (m : ℕ) (b : Bool) → m ≡ w p → take (w p) cs ≡ bytesOf (p .n) x
+pub paired-is : (p : Set) (states : List ℕ) (public cs : Bytes) (x : Bits) (m : ℕ) (b : Bool) → m ≡ w p → take (w p) cs ≡ bytesOf (p .n) x
     → x ≡ stateOf states (p .r) → b ≡ equal (take m cs) (take m public)
     → (keys layers constants secret block : Bytes) → Traced (cipherOf p keys layers constants) (bitsOf secret) (bitsOf block) states
     → b ≡ equal (encrypted p keys layers constants secret block) (ciphertext p public)

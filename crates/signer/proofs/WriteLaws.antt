@@ -1,7 +1,7 @@
 -- Laws of what is written of one round: parties by their numbers, and what is shown from parts at the start of arrays.
-use mathlib.Core.Path.{_≡_, refl, sym, ap, _∙_, subst}
+use mathlib.Core.Path.{_≡_, refl, ap, _∙_}
 use mathlib.Core.Bool.{Bool, true, false, cond}
-use mathlib.Core.List.{List, _∷_}
+use mathlib.Core.List.{_∷_}
 use Prim.Native.Nat.{ℕ, zero, suc, _+_, _-_, _*_, _%_, _≤_, _<_}
 use native.Mathlib.Omega.{arith}
 use lib.Dec.{eqb}
@@ -9,25 +9,24 @@ use lib.ListN.{length, take, drop, replicate}
 use lib.Seq.{length-take-le}
 use borrow.Author.Tests.{eq-eqb, ne-eqb}
 use Rattle.slices.specs.Slices.{Bytes}
-use Rattle.bits.specs.Bytes.{bitsOf, bytesOf, width}
-use Rattle.bits.specs.Rows.{Rows, flat, Rowed}
+use Rattle.bits.specs.Bytes.{bytesOf}
 use Rattle.sets.specs.declared.Set.{Set}
 use Rattle.sets.specs.Sets.{IsSet}
 use Rattle.sets.specs.Lengths.{w, seedWidth, transcript, seedsLength}
 use Rattle.circuit.specs.Lowmc.{Cipher}
-use Rattle.circuit.specs.Round.{Party, party0, party1, party2, next, third, transcript as transcriptRows}
+use Rattle.circuit.specs.Round.{Party, party0, party1, party2, next, third}
 use Rattle.circuit.specs.Tapes.{number}
 use Rattle.lowmc.specs.Lent.{cipherOf}
-use Rattle.round.specs.Engine.{share, words, Written}
+use Rattle.round.specs.Engine.{share}
 use Rattle.round.proofs.InputsLaws.{next-number}
 use Rattle.shape.specs.Form.{Shown, Sized}
 use Rattle.parts.specs.Places.{showing}
 use Rattle.views.specs.Parties.{partyOf}
-use Rattle.views.specs.Signed.{seedAt, saltAt, tapes, shares, shareBits, gateRows, transcripts, commitments, shownShare, shown}
+use Rattle.views.specs.Signed.{seedAt, saltAt, tapes, shares, commitments, shownShare, shown}
 use Rattle.views.proofs.PartiesLaws.{number-of}
 use Rattle.room.proofs.RoomLaws.{sizes}
 use Rattle.signer.specs.declared.Played.{Played}
-use Rattle.signer.specs.Played.{PlayedAs}
+use Rattle.signer.specs.Played.{saidBy, PlayedAs}
 use Rattle.signer.proofs.SeedLaws.{seed-part, length-seed}
 
 -- ---- parties by number
@@ -97,10 +96,6 @@ module _ (p : Set) (t e m k s : ℕ) (em : m ≡ transcript p) (ek : k ≡ w p) 
 
 -- ---- what is shown of a round that was played
 
--- equal words have the same rows
-pub rowed-as : (m n : ℕ) (us ws : List ℕ) → us ≡ ws → Rowed m n ws → Rowed m n us
-rowed-as m n us ws e h = subst (λ (l : List ℕ). Rowed m n l) (sym e) h
-
 module _ (p : Set) (keys layers constants secret block seeds : Bytes) (t e : ℕ) where
   abbrev C : Cipher
   C = cipherOf p keys layers constants
@@ -115,17 +110,15 @@ module _ (p : Set) (keys layers constants secret block seeds : Bytes) (t e : ℕ
   shared vs q false true = q
   shared vs q false false = q
 
-  -- the parts that are written are what the signer shows, where said are the bytes of any rows that the words ws hold
-  pub shown-as : (x : Played) (commitment said share′ : Bytes) (ws : List ℕ) → PlayedAs C secret ts block x
+  -- the parts that are written are what the signer shows
+  pub shown-as : (x : Played) (commitment said share′ : Bytes) → PlayedAs C secret ts block x
       → commitment ≡ commitments p C (saltAt p seeds) t (seedAt p seeds t) secret block (third (partyOf e))
-      → ws ≡ words (x .said) (next (partyOf e))
-      → ((u : Rows) → Written (3 * p .s) (p .r) u ws → said ≡ bytesOf (3 * p .s * p .r) (flat (3 * p .s) u))
+      → said ≡ saidBy x (next (partyOf e))
       → share′ ≡ cond (eqb e 0) (replicate (w p) 0) (bytesOf (p .n) (share (x .inputs) party2))
-      → showing commitment said (seedAt p seeds t (partyOf e)) (seedAt p seeds t (next (partyOf e))) share′
+      → showing commitment (take (transcript p) said) (seedAt p seeds t (partyOf e)) (seedAt p seeds t (next (partyOf e))) share′
       ≡ shown p C (saltAt p seeds) t (seedAt p seeds t) secret block (partyOf e)
-  unfolding shown transcripts
-  shown-as x commitment said share′ ws h ec ew es ex =
-      let u : Rows = transcriptRows C (bitsOf block) (shareBits C secret ts) (gateRows C secret ts) (next (partyOf e)) in
-      let r = es u (subst (λ (l : List ℕ). Written (3 * p .s) (p .r) u l) (sym ew) (h .said (next (partyOf e)))) in
+  unfolding shown
+  shown-as x commitment said share′ h ec es ex =
+      let r = ap (take (transcript p)) es ∙ h .said (next (partyOf e)) in
       let y = ex ∙ shared (bytesOf (p .n) (share (x .inputs) party2)) (h .inputs party2) (eqb e 0) (eqb e 1) in
       λ i. showing (ec i) (r i) (seedAt p seeds t (partyOf e)) (seedAt p seeds t (next (partyOf e))) (y i)

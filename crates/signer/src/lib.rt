@@ -18,7 +18,7 @@ ghost use Rattle.circuit.specs.Round.{Party, party2, next};
 ghost use Rattle.circuit.specs.Tapes.{number, tapeLength};
 ghost use Rattle.lowmc.specs.Lent.{cipherOf, Lent};
 ghost use Rattle.lowmc.specs.Encrypted.{encrypted};
-ghost use Rattle.round.specs.Engine.{share, words, Traced, Written};
+ghost use Rattle.round.specs.Engine.{share, said, Traced, Written};
 ghost use Rattle.round.specs.Inputs.{byParty};
 ghost use Rattle.hashing.specs.Hashing.{h, commitment};
 ghost use Rattle.challenge.specs.Filling.{Fills};
@@ -31,24 +31,24 @@ ghost use Rattle.views.specs.Parties.{partyOf, three};
 ghost use Rattle.views.specs.Signed.{seedAt, saltAt, tapes, commitments, shown};
 ghost use Rattle.views.specs.Input.{ciphertext, plaintext, challengeInput, signedOutputs, signedCommitments, signerFilling};
 ghost use Rattle.room.specs.Room.{commitmentsAt, withRound};
-ghost use Rattle.signer.specs.Played.{PlayedAs, Ready};
+ghost use Rattle.signer.specs.Played.{saidBy, PlayedAs, tapesIn, Ready};
 ghost use Rattle.signer.specs.Sign.{Signed, lengthChecks, shownAt, signatureFor};
 ghost use Rattle.signer.specs.Finished.{Finished};
 use answers::Refusal;
 use bits::Block;
-use bits::Strip;
 use challenge::Filled;
 use round::Shares;
-use round::Tapes;
-use round::Trace;
+use round::View;
 use sets::Chosen;
 use sets::Set;
 
-// What the signer has of a round.
+// What the signer has of a round. Transcripts are bytes, each at the start of an array.
 pub struct Played {
     pub inputs: Shares,
     pub outputs: Shares,
-    pub said: Tapes,
+    pub said0: [u8; 143],
+    pub said1: [u8; 143],
+    pub said2: [u8; 143],
 }
 
 // Checks 2 to 6.
@@ -105,17 +105,17 @@ fn block_of(s: Shares, j: usize) -> Block
     s.c
 }
 
-// The rows of party j.
-fn strip_of(t: Tapes, j: usize) -> Strip
-    ensures { λ r. ⌜ ((k : Party) → j ≡ number k → r .words ≡ words t k) ⌝ }
+// The transcript of party j, at the start of an array.
+fn said_of(x: Played, j: usize) -> [u8; 143]
+    ensures { λ r. ⌜ ((k : Party) → j ≡ number k → r ≡ saidBy x k) ⌝ }
 {
     if j == 0 {
-        return t.a;
+        return x.said0;
     }
     if j == 1 {
-        return t.b;
+        return x.said1;
     }
-    t.c
+    x.said2
 }
 
 // The tape of party j in round t from the lent seeds, at the start of an array.
@@ -132,6 +132,30 @@ fn seeded_tape(p: Set, seeds: &[u8], t: usize, j: usize) -> [u8; 175]
     room::party_tape(p, &seeds[at..end], &seeds[salt..], t, j)
 }
 
+// What the signer has of a round that was simulated from these input shares.
+fn in_bytes(p: Set, inputs: Shares, v: View) -> Played
+    requires { ⌜ IsSet p × ((j : Party) → Rowed (3 * p .s) (p .r) (said v j)) ⌝ }
+    ensures { λ r. ⌜
+        (r .inputs ≡ inputs) × (r .outputs ≡ v .out)
+        × ((j : Party) (u : Rows) → Written (3 * p .s) (p .r) u (said v j) → take (transcript p) (saidBy r j) ≡ bytesOf (3 * p .s * p .r) (flat (3 * p .s) u))
+        ⌝ }
+{
+    let outputs = v.out;
+    let a = v.a;
+    let b = v.b;
+    let c = v.c;
+    let said0 = room::transcribed(p, a);
+    let said1 = room::transcribed(p, b);
+    let said2 = room::transcribed(p, c);
+    Played {
+        inputs,
+        outputs,
+        said0,
+        said1,
+        said2,
+    }
+}
+
 // A round over its three tapes. The states are those of the encryption.
 fn play_tapes(
     p: Set,
@@ -140,14 +164,14 @@ fn play_tapes(
     constants: &[u8],
     secret: &[u8],
     block: &[u8],
-    states: Trace,
+    states: &[u64],
     t0: &[u8],
     t1: &[u8],
     t2: &[u8],
 ) -> Played
     requires { ⌜
         Lent p (now keys) (now layers) (now constants) × (length (now secret) ≡ w p) × (length (now block) ≡ w p)
-        × Traced (cipherOf p (now keys) (now layers) (now constants)) (bitsOf (now secret)) (bitsOf (now block)) states
+        × Traced (cipherOf p (now keys) (now layers) (now constants)) (bitsOf (now secret)) (bitsOf (now block)) (now states) × (length (now states) ≡ 160)
         × (w p ≤ length (now t0)) × (w p ≤ length (now t1))
         ⌝ }
     ensures { λ r. ⌜
@@ -157,17 +181,12 @@ fn play_tapes(
 {
     let x = round::input_shares(p, Block::load(secret), t0, t1);
     let plain = Block::load(block);
-    let v = round::simulate_tapes(p, keys, layers, constants, x, plain, t0, t1, t2, states);
-    let outputs = v.out;
-    let said = v.said;
-    Played {
-        inputs: x,
-        outputs,
-        said,
-    }
+    let v = round::simulate(p, keys, layers, constants, x, plain, t0, t1, t2, states);
+    in_bytes(p, x, v)
 }
 
-// Round t from the lent seeds.
+// A round over its three tapes, each at the start of a slice. The caller derives them: so hashing and the simulation do not use
+// the stack at the same time.
 fn play(
     p: Set,
     keys: &[u8],
@@ -175,24 +194,25 @@ fn play(
     constants: &[u8],
     secret: &[u8],
     public: &[u8],
-    seeds: &[u8],
-    states: Trace,
-    t: usize,
+    states: &[u64],
+    t0: &[u8],
+    t1: &[u8],
+    t2: &[u8],
 ) -> Played
-    requires { ⌜ Ready p (now keys) (now layers) (now constants) (now secret) (now public) (now seeds) states × (t < p .t) ⌝ }
+    requires { ⌜
+        Lent p (now keys) (now layers) (now constants) × (length (now secret) ≡ w p) × (length (now public) ≡ publicLength p)
+        × Traced (cipherOf p (now keys) (now layers) (now constants)) (bitsOf (now secret)) (bitsOf (plaintext p (now public))) (now states)
+        × (length (now states) ≡ 160) × (length (now t0) ≡ 175) × (length (now t1) ≡ 175) × (length (now t2) ≡ 175)
+        ⌝ }
     ensures { λ r. ⌜
         PlayedAs (cipherOf p (now (keys .entry)) (now (layers .entry)) (now (constants .entry))) (now (secret .entry))
-        (tapes p (cipherOf p (now (keys .entry)) (now (layers .entry)) (now (constants .entry))) (saltAt p (now (seeds .entry))) t
-        (seedAt p (now (seeds .entry)) t))
+        (tapesIn (cipherOf p (now (keys .entry)) (now (layers .entry)) (now (constants .entry))) (now (t0 .entry)) (now (t1 .entry)) (now (t2 .entry)))
         (plaintext p (now (public .entry))) r
         ⌝ }
 {
     let w = p.width();
     let m = room::tape_length(p, 0);
     let n = room::tape_length(p, 2);
-    let t0 = seeded_tape(p, seeds, t, 0);
-    let t1 = seeded_tape(p, seeds, t, 1);
-    let t2 = seeded_tape(p, seeds, t, 2);
     play_tapes(
         p,
         keys,
@@ -208,26 +228,23 @@ fn play(
 }
 
 // The commitment to a seed and what a party had, at the start of an array.
-fn commit_party(p: Set, seed: &[u8], share: Block, said: Strip, result: Block) -> [u8; 64]
-    requires { ⌜ IsSet p × Rowed (3 * p .s) (p .r) (said .words) ⌝ }
-    ensures { λ r. ⌜ ((u : Rows) → Written (3 * p .s) (p .r) u (said .words)
-        → take (p .digest) r
-        ≡ commitment p (now (seed .entry)) (bytesOf (p .n) (blockBits share)) (bytesOf (3 * p .s * p .r) (flat (3 * p .s) u)) (bytesOf (p .n) (blockBits result))) ⌝ }
+fn commit_party(p: Set, seed: &[u8], share: Block, said: [u8; 143], result: Block) -> [u8; 64]
+    requires { ⌜ IsSet p ⌝ }
+    ensures { λ r. ⌜
+        take (p .digest) r
+        ≡ commitment p (now (seed .entry)) (bytesOf (p .n) (blockBits share)) (take (transcript p) said) (bytesOf (p .n) (blockBits result))
+        ⌝ }
 {
     let w = p.width();
     let m = p.transcript();
     let x = room::stored(p, share);
-    let s = room::transcribed(p, said);
     let y = room::stored(p, result);
-    room::committed(p, seed, &x[..w], &s[..m], &y[..w])
+    room::committed(p, seed, &x[..w], &said[..m], &y[..w])
 }
 
 // The commitment of party j in round t, at the start of an array.
 fn commitment_of(p: Set, seeds: &[u8], t: usize, j: usize, x: Played) -> [u8; 64]
-    requires { ⌜
-        IsSet p × (length (now seeds) ≡ seedsLength p) × (t < p .t) × (j < 3)
-        × ((k : Party) → Rowed (3 * p .s) (p .r) (words (x .said) k))
-        ⌝ }
+    requires { ⌜ IsSet p × (length (now seeds) ≡ seedsLength p) × (t < p .t) × (j < 3) ⌝ }
     ensures { λ r. ⌜ ((keys layers constants secret block : Bytes) (k : Party) → j ≡ number k
         → PlayedAs (cipherOf p keys layers constants) secret
         (tapes p (cipherOf p keys layers constants) (saltAt p (now (seeds .entry))) t (seedAt p (now (seeds .entry)) t)) block x
@@ -239,22 +256,18 @@ fn commitment_of(p: Set, seeds: &[u8], t: usize, j: usize, x: Played) -> [u8; 64
     let end = at + s;
     let inputs = x.inputs;
     let outputs = x.outputs;
-    let said = x.said;
     commit_party(
         p,
         &seeds[at..end],
         block_of(inputs, j),
-        strip_of(said, j),
+        said_of(x, j),
         block_of(outputs, j),
     )
 }
 
 // The commitments of round t in the room.
 fn put_commitments(p: Set, seeds: &[u8], t: usize, x: Played, room: &mut [u8])
-    requires { ⌜
-        IsSet p × (length (now seeds) ≡ seedsLength p) × (t < p .t) × (roomLength p ≤ length (now room))
-        × ((k : Party) → Rowed (3 * p .s) (p .r) (words (x .said) k))
-        ⌝ }
+    requires { ⌜ IsSet p × (length (now seeds) ≡ seedsLength p) × (t < p .t) × (roomLength p ≤ length (now room)) ⌝ }
     ensures { λ _. ⌜ ((keys layers constants secret block : Bytes)
         → PlayedAs (cipherOf p keys layers constants) secret
         (tapes p (cipherOf p keys layers constants) (saltAt p (now (seeds .entry))) t (seedAt p (now (seeds .entry)) t)) block x
@@ -277,12 +290,12 @@ fn fill_round(
     secret: &[u8],
     public: &[u8],
     seeds: &[u8],
-    states: Trace,
+    states: &[u64],
     t: usize,
     room: &mut [u8],
 )
     requires { ⌜
-        Ready p (now keys) (now layers) (now constants) (now secret) (now public) (now seeds) states × (t < p .t)
+        Ready p (now keys) (now layers) (now constants) (now secret) (now public) (now seeds) (now states) × (t < p .t)
         × (roomLength p ≤ length (now room))
         ⌝ }
     ensures { λ _. ⌜
@@ -293,7 +306,21 @@ fn fill_round(
         (now (room .entry))
         ⌝ }
 {
-    let x = play(p, keys, layers, constants, secret, public, seeds, states, t);
+    let t0 = seeded_tape(p, seeds, t, 0);
+    let t1 = seeded_tape(p, seeds, t, 1);
+    let t2 = seeded_tape(p, seeds, t, 2);
+    let x = play(
+        p,
+        keys,
+        layers,
+        constants,
+        secret,
+        public,
+        states,
+        &t0,
+        &t1,
+        &t2,
+    );
     let y = x.outputs;
     let a = y.a;
     let b = y.b;
@@ -311,11 +338,11 @@ fn fill(
     secret: &[u8],
     public: &[u8],
     seeds: &[u8],
-    states: Trace,
+    states: &[u64],
     room: &mut [u8],
 )
     requires { ⌜
-        Ready p (now keys) (now layers) (now constants) (now secret) (now public) (now seeds) states
+        Ready p (now keys) (now layers) (now constants) (now secret) (now public) (now seeds) (now states)
         × (roomLength p ≤ length (now room))
         ⌝ }
     ensures { λ _. ⌜
@@ -412,7 +439,6 @@ fn write_shown(
 ) -> usize
     requires { ⌜
         IsSet p × (length (now seeds) ≡ seedsLength p) × (t < p .t) × (e < 3)
-        × ((k : Party) → Rowed (3 * p .s) (p .r) (words (x .said) k))
         × (at + sizes (round p e) ≤ length (now output))
         ⌝ }
     ensures { λ n. ⌜
@@ -427,9 +453,8 @@ fn write_shown(
     let j = e as usize;
     let k = (j + 1) % 3;
     let inputs = x.inputs;
-    let said = x.said;
     let commitment = commitment_of(p, seeds, t, (j + 2) % 3, x);
-    let transcript = room::transcribed(p, strip_of(said, k));
+    let transcript = said_of(x, k);
     let share = shown_share(p, e, inputs);
     write_parts(p, seeds, t, e, commitment, transcript, share, output, at)
 }
@@ -443,14 +468,14 @@ fn write_round(
     secret: &[u8],
     public: &[u8],
     seeds: &[u8],
-    states: Trace,
+    states: &[u64],
     t: usize,
     e: u8,
     output: &mut [u8],
     at: usize,
 ) -> usize
     requires { ⌜
-        Ready p (now keys) (now layers) (now constants) (now secret) (now public) (now seeds) states × (t < p .t) × (e < 3)
+        Ready p (now keys) (now layers) (now constants) (now secret) (now public) (now seeds) (now states) × (t < p .t) × (e < 3)
         × (at + sizes (round p e) ≤ length (now output))
         ⌝ }
     ensures { λ n. ⌜
@@ -459,7 +484,21 @@ fn write_round(
         (roundOf p e (shownAt p (cipherOf p (now (keys .entry)) (now (layers .entry)) (now (constants .entry))) (now (secret .entry)) (now (public .entry)) (now (seeds .entry)) t e)))
         ⌝ }
 {
-    let again = play(p, keys, layers, constants, secret, public, seeds, states, t);
+    let a = seeded_tape(p, seeds, t, 0);
+    let b = seeded_tape(p, seeds, t, 1);
+    let c = seeded_tape(p, seeds, t, 2);
+    let again = play(
+        p,
+        keys,
+        layers,
+        constants,
+        secret,
+        public,
+        states,
+        &a,
+        &b,
+        &c,
+    );
     write_shown(p, seeds, t, e, again, output, at)
 }
 
@@ -487,12 +526,12 @@ fn write(
     secret: &[u8],
     public: &[u8],
     seeds: &[u8],
-    states: Trace,
+    states: &[u64],
     values: &[u8],
     output: &mut [u8],
 ) -> usize
     requires { ⌜
-        Ready p (now keys) (now layers) (now constants) (now secret) (now public) (now seeds) states
+        Ready p (now keys) (now layers) (now constants) (now secret) (now public) (now seeds) (now states)
         × (length (now values) ≡ p .t) × AreValues (now values) × (longest p ≤ length (now output))
         ⌝ }
     ensures { λ n. ⌜
@@ -534,29 +573,31 @@ fn traced(
     constants: &[u8],
     secret: &[u8],
     public: &[u8],
-) -> Trace
+    states: &mut [u64],
+)
     requires { ⌜
         Lent p (now keys) (now layers) (now constants) × (length (now secret) ≡ w p) × (length (now public) ≡ publicLength p)
+        × (length (now states) ≡ 160)
         ⌝ }
-    ensures { λ r. ⌜
+    ensures { λ _. ⌜
         Traced (cipherOf p (now (keys .entry)) (now (layers .entry)) (now (constants .entry))) (bitsOf (now (secret .entry)))
-        (bitsOf (plaintext p (now (public .entry)))) r
+        (bitsOf (plaintext p (now (public .entry)))) (now (states .exit))
         ⌝ }
 {
     let w = p.width();
     let key = Block::load(secret);
     let block = Block::load(&public[w..]);
-    round::all_states(p, keys, layers, constants, key, block)
+    round::all_states(p, keys, layers, constants, key, block, states);
 }
 
 // Whether the last state of an encryption is the ciphertext of the public key. Every byte is looked at.
-fn paired(p: Set, states: Trace, public: &[u8]) -> bool
-    requires { ⌜ IsSet p × (length (now public) ≡ publicLength p) ⌝ }
-    ensures { λ b. ⌜ ((keys layers constants secret block : Bytes) → Traced (cipherOf p keys layers constants) (bitsOf secret) (bitsOf block) states
+fn paired(p: Set, states: &[u64], public: &[u8]) -> bool
+    requires { ⌜ IsSet p × (length (now states) ≡ 160) × (length (now public) ≡ publicLength p) ⌝ }
+    ensures { λ b. ⌜ ((keys layers constants secret block : Bytes) → Traced (cipherOf p keys layers constants) (bitsOf secret) (bitsOf block) (now (states .entry))
         → b ≡ equal (encrypted p keys layers constants secret block) (ciphertext p (now (public .entry)))) ⌝ }
 {
     let w = p.width();
-    let c = room::stored(p, states.at(p.r));
+    let c = room::stored(p, round::state_at(states, p.r));
     slices::equal(&c[..w], &public[..w])
 }
 
@@ -603,12 +644,12 @@ fn sign_ready(
     message: &[u8],
     limit: u64,
     seeds: &[u8],
-    states: Trace,
+    states: &[u64],
     room: &mut [u8],
     output: &mut [u8],
 ) -> u64
     requires { ⌜
-        Ready p (now keys) (now layers) (now constants) (now secret) (now public) (now seeds) states
+        Ready p (now keys) (now layers) (now constants) (now secret) (now public) (now seeds) (now states)
         × (roomLength p ≤ length (now room)) × (longest p ≤ length (now output))
         ⌝ }
     ensures { λ r. ⌜ ((set : ℕ)
@@ -712,8 +753,9 @@ fn sign_known(
     if !why.fine() {
         return why.answer(0);
     }
-    let states = traced(p, keys, layers, constants, secret, public);
-    if !paired(p, states, public) {
+    let mut states = [0u64; 160];
+    traced(p, keys, layers, constants, secret, public, &mut states);
+    if !paired(p, &states, public) {
         return Refusal::Pair.answer(0);
     }
     sign_ready(
@@ -726,7 +768,7 @@ fn sign_known(
         message,
         limit,
         seeds,
-        states,
+        &states,
         room,
         output,
     )

@@ -10,42 +10,43 @@ use Rattle.sets.proofs.Each.{most}
 use Rattle.circuit.specs.Lowmc.{stateAfter}
 use Rattle.circuit.specs.RoundTheorems.{xor3}
 use Rattle.lowmc.specs.Lent.{cipherOf}
-use Rattle.round.specs.Engine.{share, word, rowOf, tape, Traced}
+use Rattle.round.specs.Engine.{share, word, rowOf, Traced}
 use Rattle.round.specs.Inner.{Begun}
+use Rattle.round.specs.Inputs.{tapesOf}
 use Rattle.round.proofs.SignerLaws.{Done, done-none, done-more, done-all}
 use borrow.Author.Needs.{needs}
 use Rattle.round.proofs.simulate.Statement.{statement}
 use Rattle.round.proofs.simulate.Tie as tie
 
 abbrev Inv-loop : tie.InvT-loop
-Inv-loop p keys layers constants x t states r s₀ a₀ b₀ c₀ i₀ s a b c i =
+Inv-loop p keys layers constants x t0 t1 t2 states r s₀ a₀ b₀ c₀ i₀ s a b c i =
     (i ≤ r) × (r ≤ 38) × (r ≡ p .r) × (length a ≡ 40) × (length b ≡ 40) × (length c ≡ 40)
     × ((q w : Bits)
     → Traced (cipherOf p keys layers constants) (xor3 (share x)) q states
     → w ≡ stateAfter (cipherOf p keys layers constants) (xor3 (share x)) q 0
     → Begun (cipherOf p keys layers constants) q (share x) w (share s₀)
-    → Done (cipherOf p keys layers constants) q (share x) (tape t) i (share s) a b c)
+    → Done (cipherOf p keys layers constants) q (share x) (tapesOf (cipherOf p keys layers constants) t0 t1 t2) i (share s) a b c)
 
 abbrev μ-loop : tie.MeasureT-loop
-μ-loop p keys layers constants x t states r s₀ a₀ b₀ c₀ i₀ s a b c i = r - i
+μ-loop p keys layers constants x t0 t1 t2 states r s₀ a₀ b₀ c₀ i₀ s a b c i = r - i
 
-at-requires : tie.Need-at-requires Inv-loop μ-loop
-at-requires c κs = search needs
+state-at-requires : tie.Need-state-at-requires Inv-loop μ-loop
+state-at-requires c κs = search needs
 
 begin-requires : tie.Need-begin-requires Inv-loop μ-loop
 begin-requires c κs = search needs
 
 loop-holds : tie.Need-loop-holds Inv-loop μ-loop
 loop-holds c =
-    let a = c .before .before .before .before .before .args in
+    let a = c .before .before .before .before .before .before .before .before .before .args in
     let C = cipherOf (a .p) (a .keys .now) (a .layers .now) (a .constants .now) in
-    (search needs, most (λ (q : Set). q .r) 38 tt tt tt (c .before .before .before .before .before .pre .0 .is-set), refl, search needs, search needs, search needs, λ q w h e g. done-none C q (share (a .x)) (tape (a .t)) 40 w _ e g)
+    (search needs, most (λ (q : Set). q .r) 38 tt tt tt (c .before .before .before .before .before .before .before .before .before .pre .0 .is-set), refl, search needs, search needs, search needs, λ q w h e g. done-none C q (share (a .x)) (tapesOf C (a .t0 .now) (a .t1 .now) (a .t2 .now)) 40 w _ e g)
 
 rows-at-requires : tie.Need-rows-at-requires Inv-loop μ-loop
 rows-at-requires c κs = search needs
 
 gate-rows-requires : tie.Need-gate-rows-requires Inv-loop μ-loop
-gate-rows-requires c κs = search needs
+gate-rows-requires c κs = c .before .before .before .before .before .before .before .before .before .before .before .before .pre .0 .is-set
 
 mul-a : tie.Need-mul-a Inv-loop μ-loop
 mul-a c = search needs
@@ -65,14 +66,14 @@ mul-c c = search needs
 array-write-c : tie.Need-array-write-c Inv-loop μ-loop
 array-write-c c = search needs
 
-add-at : tie.Need-add-at Inv-loop μ-loop
-add-at c = search needs
+add-state-at : tie.Need-add-state-at Inv-loop μ-loop
+add-state-at c = search needs
 
-at-requires-2 : tie.Need-at-requires-2 Inv-loop μ-loop
-at-requires-2 c κs = search needs
+state-at-requires-2 : tie.Need-state-at-requires-2 Inv-loop μ-loop
+state-at-requires-2 c κs = (search needs, c .before .before .before .before .before .before .before .before .before .before .before .before .before .pre .2)
 
 step-requires : tie.Need-step-requires Inv-loop μ-loop
-step-requires c κs = search needs
+step-requires c κs = (c .before .before .before .before .before .before .before .before .before .before .before .before .before .before .pre .0, search needs)
 
 add-i : tie.Need-add-i Inv-loop μ-loop
 add-i c = search needs
@@ -82,7 +83,7 @@ loop-less c = search needs
 
 loop-again : tie.Need-loop-again Inv-loop μ-loop
 loop-again c =
-    let a = c .before .before .before .before .before .before .before .before .before .before .before .args in
+    let a = c .before .before .before .before .before .before .before .before .before .before .before .before .before .before .before .args in
     let l = c .before .before .before .before .before .loop in
     let C = cipherOf (a .p) (a .keys .now) (a .layers .now) (a .constants .now) in (
       search needs,
@@ -91,19 +92,19 @@ loop-again c =
       simp length-set (l .inv .3),
       simp length-set (l .inv .4),
       simp length-set (l .inv .5),
-      λ q w h e g. done-more C q (share (a .x)) (tape (a .t)) (l .i) (share (l .s)) (rowOf (c .before .before .before .rows-at .result)) (share (c .step .result)) (word (c .before .before .gate-rows .result)) _ (l .a) (l .b) (l .c)
+      λ q w h e g. done-more C q (share (a .x)) (tapesOf C (a .t0 .now) (a .t1 .now) (a .t2 .now)) (l .i) (share (l .s)) (rowOf (c .before .before .before .rows-at .result)) (share (c .step .result)) (word (c .before .before .gate-rows .result)) _ (l .a) (l .b) (l .c)
           (omega (arith, l .inv .2)) (omega (arith, l .inv .2, l .inv .3)) (omega (arith, l .inv .2, l .inv .4)) (omega (arith, l .inv .2, l .inv .5))
-          (c .before .before .before .rows-at .ensures) (c .before .before .gate-rows .ensures) (c .before .at2 .ensures ∙ h (l .i + 1) (omega (arith, l .inv .2))) (c .step .ensures) (l .inv .6 q w h e g),
+          (c .before .before .before .rows-at .ensures (a .keys .now) (a .layers .now) (a .constants .now)) (c .before .before .gate-rows .ensures) (c .before .state-at2 .ensures ∙ h (l .i + 1) (omega (arith, l .inv .2))) (c .step .ensures) (l .inv .6 q w h e g),
     )
 
 returns : tie.Need-returns Inv-loop μ-loop
 returns c =
-    let a = c .before .before .before .before .before .before .before .args in
+    let a = c .before .before .before .before .before .before .before .before .before .before .before .args in
     let l = c .before .loop in
     let C = cipherOf (a .p) (a .keys .now) (a .layers .now) (a .constants .now) in
     let e : l .i ≡ a .p .r = omega (arith, l .inv .0, l .inv .2) in
-    let h = c .before .before .before .before .before .before .before .pre .1 in
-    done-all C (blockBits (a .plain)) (share (a .x)) (tape (a .t)) (l .i) e _ (l .inv .6 (blockBits (a .plain)) _ h (c .before .before .before .at .ensures ∙ h 0 (omega arith)) (c .before .before .begin .ensures))
+    let h = c .before .before .before .before .before .before .before .before .before .before .before .pre .1 in
+    done-all C (blockBits (a .plain)) (share (a .x)) (tapesOf C (a .t0 .now) (a .t1 .now) (a .t2 .now)) (l .i) e _ (l .inv .6 (blockBits (a .plain)) _ h (c .before .before .before .state-at .ensures ∙ h 0 (omega arith)) (c .before .before .begin .ensures))
 
 pub simulate-spec : {M : Type 1} → statement M
 simulate-spec =
@@ -111,7 +112,7 @@ simulate-spec =
     (tie.spec
     Inv-loop
     μ-loop
-    at-requires
+    state-at-requires
     begin-requires
     loop-holds
     rows-at-requires
@@ -122,8 +123,8 @@ simulate-spec =
     array-write-b
     mul-c
     array-write-c
-    add-at
-    at-requires-2
+    add-state-at
+    state-at-requires-2
     step-requires
     add-i
     loop-less

@@ -1,13 +1,9 @@
 -- `signer::commitment_of` meets its contract.
-use mathlib.Core.Path.{sym, subst}
-use Prim.Native.Nat.{_*_}
 use native.Mathlib.Omega.{arith}
-use Rattle.bits.specs.Rows.{Rowed}
 use Rattle.lowmc.specs.Lent.{cipherOf}
-use Rattle.round.specs.Engine.{Written}
 use Rattle.views.specs.Signed.{seedAt, saltAt}
 use Rattle.signer.proofs.SeedLaws.{placed, seed-part}
-use Rattle.signer.proofs.PlayLaws.{by-number, commitment-as}
+use Rattle.signer.proofs.PlayLaws.{commitment-as}
 use borrow.Author.Needs.{needs}
 use Rattle.signer.proofs.commitment_of.Statement.{statement}
 use Rattle.signer.proofs.commitment_of.Tie as tie
@@ -43,32 +39,28 @@ part-commit-party-start c = search needs
 
 part-commit-party-end : tie.Need-part-commit-party-end
 part-commit-party-end c =
-    let h = c .before .before .before .before .before .pre in
-    omega (arith, placed (c .before .before .before .before .before .args .seeds .now) (h .0) (h .1) (h .2) (h .3) (c .before .before .before .seed-width .ensures))
+    let h = c .before .before .before .before .pre in
+    omega (arith, placed (c .before .before .before .before .args .seeds .now) (h .0) (h .1) (h .2) (h .3) (c .before .before .seed-width .ensures))
 
 block-of-requires : tie.Need-block-of-requires
 block-of-requires c κs = search needs
 
-strip-of-requires : tie.Need-strip-of-requires
-strip-of-requires c κs = search needs
+said-of-requires : tie.Need-said-of-requires
+said-of-requires c κs = search needs
 
 block-of-requires-2 : tie.Need-block-of-requires-2
 block-of-requires-2 c κs = search needs
 
 commit-party-requires : tie.Need-commit-party-requires
-commit-party-requires c κs =
-    let a = c .before .before .before .before .before .before .before .before .before .args in
-    let h = c .before .before .before .before .before .before .before .before .before .pre in
-    (h .0, by-number (a .j) (h .3) (λ k q. subst (Rowed (3 * a .p .s) (a .p .r)) (sym (c .before .strip-of .ensures k q)) (h .4 k)))
+commit-party-requires c κs = search needs
 
 returns : tie.Need-returns
 returns c =
-    let a = c .before .before .before .before .before .before .before .before .before .before .args in
+    let a = c .before .before .before .before .before .before .before .before .before .args in
     λ keys layers constants secret block k q g.
     commitment-as (a .p) (cipherOf (a .p) keys layers constants) (saltAt (a .p) (a .seeds .now)) (a .t) (seedAt (a .p) (a .seeds .now) (a .t)) secret block (a .x) k g
-    (seed-part (a .p) (a .seeds .now) (c .before .before .before .before .before .before .before .before .seed-width .result) (c .before .before .before .before .before .before .before .before .seed-width .ensures) (a .t) (a .j) k q)
-    (c .before .before .before .block-of .ensures k q) (c .before .block-of2 .ensures k q)
-    (c .commit-party .ensures _ (subst (Written (3 * a .p .s) (a .p .r) _) (sym (c .before .before .strip-of .ensures k q)) (g .said k)))
+    (seed-part (a .p) (a .seeds .now) (c .before .before .before .before .before .before .before .seed-width .result) (c .before .before .before .before .before .before .before .seed-width .ensures) (a .t) (a .j) k q)
+    (c .before .before .before .block-of .ensures k q) (c .before .before .said-of .ensures k q) (c .before .block-of2 .ensures k q) (c .commit-party .ensures)
 
 pub commitment-of-spec : {M : Type 1} → statement M
 commitment-of-spec =
@@ -83,7 +75,7 @@ commitment-of-spec =
     part-commit-party-start
     part-commit-party-end
     block-of-requires
-    strip-of-requires
+    said-of-requires
     block-of-requires-2
     commit-party-requires
     returns)

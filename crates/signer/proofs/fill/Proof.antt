@@ -17,12 +17,12 @@ abbrev μ-loop : tie.MeasureT-loop
 μ-loop p keys layers constants secret public seeds states room₀ rounds t₀ room t = rounds - t
 
 loop-holds : tie.Need-loop-holds Inv-loop μ-loop
-loop-holds c = (search needs, held-none (c .before .before .before .before .before .before .before .pre .0 .lent .is-set) _ _ (c .before .before .before .before .before .before .before .args .room .now))
+loop-holds c = (search needs, held-none (c .before .before .before .before .before .before .before .before .pre .0 .lent .is-set) _ _ (c .before .before .before .before .before .before .before .before .args .room .now))
 
 fill-round-requires : tie.Need-fill-round-requires Inv-loop μ-loop
 fill-round-requires c κs =
-    let h = c .before .before .before .before .before .before .before .before .before .before .pre in
-    (h .0, c .before .loop-test .taken, omega (arith, h .1, held-length (h .0 .lent .is-set) _ _ (c .before .before .before .before .before .before .before .before .before .before .args .room .now) _ _ (c .before .before .loop .inv .1)))
+    let h = c .before .before .before .before .before .before .before .before .before .before .before .pre in
+    (h .0, c .before .loop-test .taken, omega (arith, h .1, held-length (h .0 .lent .is-set) _ _ (c .before .before .before .before .before .before .before .before .before .before .before .args .room .now) _ _ (c .before .before .loop .inv .1)))
 
 add-t : tie.Need-add-t Inv-loop μ-loop
 add-t c = search needs
@@ -32,8 +32,8 @@ loop-less c = search needs
 
 loop-again : tie.Need-loop-again Inv-loop μ-loop
 loop-again c =
-    let a = c .before .before .before .before .before .before .before .before .before .before .before .before .before .args in
-    let h = c .before .before .before .before .before .before .before .before .before .before .before .before .before .pre in
+    let a = c .before .before .before .before .before .before .before .before .before .before .before .before .before .before .args in
+    let h = c .before .before .before .before .before .before .before .before .before .before .before .before .before .before .pre in
     let i = h .0 .lent .is-set in
     let C = cipherOf (a .p) (a .keys .now) (a .layers .now) (a .constants .now) in (
       search needs,
@@ -43,16 +43,16 @@ loop-again c =
     )
 
 same-length : tie.Need-same-length Inv-loop μ-loop
-same-length c = held-length (c .before .before .before .before .before .before .before .before .before .pre .0 .lent .is-set) _ _ (c .before .before .before .before .before .before .before .before .before .args .room .now) _ _ (c .before .loop .inv .1)
+same-length c = held-length (c .before .before .before .before .before .before .before .before .before .before .pre .0 .lent .is-set) _ _ (c .before .before .before .before .before .before .before .before .before .before .args .room .now) _ _ (c .before .loop .inv .1)
 
 returns : tie.Need-returns Inv-loop μ-loop
 unfolding signerFilling
 returns c =
-    let a = c .before .before .before .before .before .before .before .before .before .args in
+    let a = c .before .before .before .before .before .before .before .before .before .before .args in
     let C = cipherOf (a .p) (a .keys .now) (a .layers .now) (a .constants .now) in
     let o = signedOutputs (a .p) C (a .secret .now) (a .public .now) (a .seeds .now) in
     let d = signedCommitments (a .p) C (a .secret .now) (a .public .now) (a .seeds .now) in
-    let h = c .before .before .before .before .before .before .before .before .before .pre in
+    let h = c .before .before .before .before .before .before .before .before .before .before .pre in
     let e : c .before .loop .t ≡ a .p .t = omega (arith, c .before .loop .inv .0, c .loop-test .left) in
     held-all (h .0 .lent .is-set) o d (a .room .now) (c .before .loop .room) (h .1)
     (subst (λ (n : ℕ). Held (a .p) n o d (a .room .now) (c .before .loop .room)) e (c .before .loop .inv .1))

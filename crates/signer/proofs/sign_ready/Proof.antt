@@ -41,7 +41,7 @@ slice-aggregate-challenged c = search needs
 
 challenged-requires : tie.Need-challenged-requires
 challenged-requires c κs =
-    let h = c .before .before .before .before .before .before .before .before .before .before .before .before .before .before .before .before .pre in
+    let h = c .before .before .before .before .before .before .before .before .before .before .before .before .before .before .before .before .before .pre in
     (h .0 .lent .is-set, h .0 .seeds-long, omega (arith, h .1, c .before .before .before .before .fill .kept .1 .1 .1 .1 .1 .1 .1 .1 .0), sizes (h .0 .lent .is-set) .rounds)
 
 clear-requires : tie.Need-clear-requires
@@ -57,14 +57,14 @@ enum-told-2 : tie.Need-enum-told-2
 enum-told-2 c = search needs
 
 array-share-prefix-values : tie.Need-array-share-prefix-values
-array-share-prefix-values c = omega (arith, sizes (c .before .before .before .before .before .before .before .before .before .before .before .before .before .before .before .before .before .before .before .before .before .before .before .before .pre .0 .lent .is-set) .rounds, c .before .before .before .before .before .before .before .challenged .kept .1 .1 .1 .1 .1 .1 .0)
+array-share-prefix-values c = omega (arith, sizes (c .before .before .before .before .before .before .before .before .before .before .before .before .before .before .before .before .before .before .before .before .before .before .before .before .before .pre .0 .lent .is-set) .rounds, c .before .before .before .before .before .before .before .challenged .kept .1 .1 .1 .1 .1 .1 .0)
 
 slice-aggregate-write : tie.Need-slice-aggregate-write
-slice-aggregate-write c = sym (length-take-le _ _ (omega (arith, sizes (c .before .before .before .before .before .before .before .before .before .before .before .before .before .before .before .before .before .before .before .before .before .before .before .before .before .pre .0 .lent .is-set) .rounds, c .before .before .before .before .before .before .before .before .challenged .kept .1 .1 .1 .1 .1 .1 .0)))
+slice-aggregate-write c = sym (length-take-le _ _ (omega (arith, sizes (c .before .before .before .before .before .before .before .before .before .before .before .before .before .before .before .before .before .before .before .before .before .before .before .before .before .before .pre .0 .lent .is-set) .rounds, c .before .before .before .before .before .before .before .before .challenged .kept .1 .1 .1 .1 .1 .1 .0)))
 
 write-requires : tie.Need-write-requires
 write-requires c κs =
-    let s = c .before .before .before .before .before .before .before .before .before .before .before .before .before .before .before .before .before .before .before .before .before .before .before .before .before .before in
+    let s = c .before .before .before .before .before .before .before .before .before .before .before .before .before .before .before .before .before .before .before .before .before .before .before .before .before .before .before in
     let i = s .pre .0 .lent .is-set in (
       s .pre .0,
       length-values i (given s 0) (c .before .before .before .before .before .before .before .before .before .before .before .before .before .before .fill .ensures) (c .before .before .before .before .before .before .before .before .before .challenged .ensures) (c .before .before .enum-told2 .given .1),
@@ -74,7 +74,7 @@ write-requires c κs =
 
 cast-answer : tie.Need-cast-answer
 cast-answer c =
-    let s = c .before .before .before .before .before .before .before .before .before .before .before .before .before .before .before .before .before .before .before .before .before .before .before .before .before .before .before .before .before in
+    let s = c .before .before .before .before .before .before .before .before .before .before .before .before .before .before .before .before .before .before .before .before .before .before .before .before .before .before .before .before .before .before in
     let i = s .pre .0 .lent .is-set in
     let g = given s 0 in
     let vs = take (s .args .p .t) (c .before .before .before .before .before .before .before .before .before .before .before .before .challenged .last .1 .1 .1 .1 .1 .1 .0) in
@@ -88,7 +88,7 @@ same-length c = search needs
 
 returns : tie.Need-returns
 returns c =
-    let s = c .before .before .before .before .before .before .before .before .before .before .before .before .before .before .before .before .before .before .before .before .before .before .before .before .before in
+    let s = c .before .before .before .before .before .before .before .before .before .before .before .before .before .before .before .before .before .before .before .before .before .before .before .before .before .before in
     let i = s .pre .0 .lent .is-set in
     λ set. finished-few i (given s set) (c .before .before .before .before .before .before .before .before .before .before .before .before .before .fill .ensures) (c .before .before .before .before .before .before .before .before .challenged .ensures) (c .before .enum-told .given .1) (c .answer .ensures)
     (room-cleared i (given s set) (c .before .before .before .before .before .before .before .before .before .before .before .before .before .fill .ensures) _ (c .before .before .before .before .before .before .before .before .before .before .before .before .before .before .before .room-length .ensures) (c .before .before .before .before .before .clear .ensures))
@@ -101,7 +101,7 @@ same-length-3 c = search needs
 
 returns-2 : tie.Need-returns-2
 returns-2 c =
-    let s = c .before .before .before .before .before .before .before .before .before .before .before .before .before .before .before .before .before .before .before .before .before .before .before .before .before .before .before .before .before .before in
+    let s = c .before .before .before .before .before .before .before .before .before .before .before .before .before .before .before .before .before .before .before .before .before .before .before .before .before .before .before .before .before .before .before in
     let i = s .pre .0 .lent .is-set in
     λ set. finished-full i (given s set) (c .before .before .before .before .before .before .before .before .before .before .before .before .before .before .before .before .before .before .fill .ensures) (c .before .before .before .before .before .before .before .before .before .before .before .before .before .challenged .ensures) (c .before .before .before .before .before .before .enum-told2 .given .1) (c .before .before .before .write .ensures .0) (c .before .before .before .write .ensures .1) (c .answer2 .ensures)
     (room-cleared i (given s set) (c .before .before .before .before .before .before .before .before .before .before .before .before .before .before .before .before .before .before .fill .ensures) _ (c .before .before .before .before .before .before .before .before .before .before .before .before .before .before .before .before .before .before .before .before .room-length .ensures) (c .before .before .before .before .before .before .before .before .before .before .clear .ensures))

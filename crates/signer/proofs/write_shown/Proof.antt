@@ -4,7 +4,7 @@ use Rattle.slices.specs.Slices.{put}
 use Rattle.circuit.specs.Round.{next, third}
 use Rattle.shape.specs.Form.{Shown, roundOf}
 use Rattle.views.specs.Parties.{partyOf}
-use Rattle.signer.proofs.WriteLaws.{number-after, number-last, rowed-as, shown-as}
+use Rattle.signer.proofs.WriteLaws.{number-after, number-last, shown-as}
 use borrow.Author.Needs.{needs}
 use Rattle.signer.proofs.write_shown.Statement.{statement}
 use Rattle.signer.proofs.write_shown.Tie as tie
@@ -18,14 +18,8 @@ add-commitment-of c = search needs
 commitment-of-requires : tie.Need-commitment-of-requires
 commitment-of-requires c κs = search needs
 
-strip-of-requires : tie.Need-strip-of-requires
-strip-of-requires c κs = search needs
-
-transcribed-requires : tie.Need-transcribed-requires
-transcribed-requires c κs =
-    let start = c .before .before .before .before .before .before in
-    let j = next (partyOf (start .args .e)) in
-    (start .pre .0, rowed-as _ _ _ _ (c .strip-of .ensures j (number-after (start .args .e) (start .pre .3))) (start .pre .4 j))
+said-of-requires : tie.Need-said-of-requires
+said-of-requires c κs = search needs
 
 shown-share-requires : tie.Need-shown-share-requires
 shown-share-requires c κs = search needs
@@ -38,16 +32,15 @@ same-length c = search needs
 
 returns : tie.Need-returns
 returns c =
-    let start = c .before .before .before .before .before .before .before .before .before .before .before .before in
+    let start = c .before .before .before .before .before .before .before .before .before .before in
     let e = start .args .e in (
       c .before .before .write-parts .ensures .0,
       λ keys layers constants secret block h.
           c .before .before .write-parts .ensures .1
           ∙ ap (λ (u : Shown). put (start .args .output .now) (start .args .at) (roundOf (start .args .p) e u))
-          (shown-as (start .args .p) keys layers constants secret block (start .args .seeds .now) (start .args .t) e (start .args .x) _ _ _ _ h
-          (c .before .before .before .before .before .before .before .commitment-of .ensures keys layers constants secret block (third (partyOf e)) (number-last e (start .pre .3)) h)
-          (c .before .before .before .before .before .before .strip-of .ensures (next (partyOf e)) (number-after e (start .pre .3)))
-          (c .before .before .before .before .before .transcribed .ensures) (c .before .before .before .before .shown-share .ensures)),
+          (shown-as (start .args .p) keys layers constants secret block (start .args .seeds .now) (start .args .t) e (start .args .x) _ _ _ h
+          (c .before .before .before .before .before .before .commitment-of .ensures keys layers constants secret block (third (partyOf e)) (number-last e (start .pre .3)) h)
+          (c .before .before .before .before .before .said-of .ensures (next (partyOf e)) (number-after e (start .pre .3))) (c .before .before .before .before .shown-share .ensures)),
     )
 
 pub write-shown-spec : {M : Type 1} → statement M
@@ -57,8 +50,7 @@ write-shown-spec =
     add-k
     add-commitment-of
     commitment-of-requires
-    strip-of-requires
-    transcribed-requires
+    said-of-requires
     shown-share-requires
     write-parts-requires
     same-length
