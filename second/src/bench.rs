@@ -7,7 +7,6 @@ use crate::hashing::{derived_seeds, kdf};
 use crate::known::{Known, KNOWN};
 use crate::lowmc::Tables;
 use crate::picnic::Statement;
-use crate::round::Engine;
 use crate::sets::{Set, HIGHEST_BLOCK_LIMIT};
 use crate::shake::shake;
 use crate::signature::Signature;
@@ -62,27 +61,6 @@ pub fn encryptions(set: &Set, turns: Turns) -> Measured {
     Measured {
         nanoseconds,
         last: block,
-    }
-}
-
-/// Times products in twos, as a round has them: of every matrix of the drawn
-/// tables and two vectors.
-pub fn products(set: &Set, turns: Turns) -> Measured {
-    match set.n.div_ceil(64) {
-        2 => products_in::<2>(set, turns),
-        3 => products_in::<3>(set, turns),
-        _ => products_in::<4>(set, turns),
-    }
-}
-
-fn products_in<const W: usize>(set: &Set, turns: Turns) -> Measured {
-    let tables = set.lowmc().tables();
-    let engine = Engine::<W, 1>::new(set, &tables, &known(set).block());
-    let mut vectors = [[1; W], [2; W]];
-    let nanoseconds = turns.measure(|| vectors = engine.multiply(vectors));
-    Measured {
-        nanoseconds: nanoseconds / (2 * encryption(set).products) as f64,
-        last: vectors[0][0].to_be_bytes().into(),
     }
 }
 
@@ -254,8 +232,6 @@ mod tests {
             assert!(again.products > sign.products && again.permutations > sign.permutations);
             let once = || drop(encryptions(set, Turns { turns: 1, times: 1 }));
             assert_eq!(counted::of(once), encrypt);
-            let both = || drop(products(set, Turns { turns: 1, times: 1 }));
-            assert_eq!(counted::of(both).products, 2 * encrypt.products);
             let hash = || drop(permutations(set, Turns { turns: 1, times: 1 }));
             assert_eq!(counted::of(hash).permutations, HASHED / set.hash.rate() + 1);
         }

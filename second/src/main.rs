@@ -46,11 +46,11 @@ second lend SET
 second encrypt SET KEYHEX BLOCKHEX
     encrypt a block with the LowMC of set 1, 2 or 3 over its drawn tables and
     print the ciphertext in hex
-second bench {hash|encrypt|product|sign|verify} SET TURNS TIMES
+second bench {hash|encrypt|sign|verify} SET TURNS TIMES
     do one thing TIMES times in each of TURNS turns, and print the nanoseconds
     of one time in the quickest turn, and what came of the last: hash a long
-    input, by permutations; encrypt what the last time gave; multiply all
-    matrices, by products; sign a message; verify a signature
+    input, by permutations; encrypt what the last time gave; sign a message;
+    verify a signature
 second work SET
     print the permutations and the matrix products that it takes to encrypt a
     block, to sign that message, to sign it in two passes, and to verify the
@@ -226,7 +226,6 @@ fn run_bench(
     let turns = Turns { turns, times };
     let measured = match what {
         "encrypt" => bench::encryptions(set, turns),
-        "product" => bench::products(set, turns),
         "hash" => bench::permutations(set, turns),
         "sign" => bench::signatures(set, turns),
         "verify" => bench::verdicts(set, turns),

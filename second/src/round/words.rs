@@ -140,17 +140,6 @@ impl<'a, const W: usize, const G: usize> Engine<'a, W, G> {
         })
     }
 
-    /// The products of a round and nothing else, for measuring: every matrix
-    /// times two vectors, which become the products.
-    pub fn multiply(&self, mut vectors: [Block<W>; 2]) -> [Block<W>; 2] {
-        vectors = self.cipher.products(&self.tables.keys, 0, &vectors);
-        for i in 1..=self.set.r {
-            vectors = self.cipher.products(&self.tables.layers, i - 1, &vectors);
-            vectors = self.cipher.products(&self.tables.keys, i, &vectors);
-        }
-        vectors
-    }
-
     /// Gates in a LowMC round.
     fn gates(&self) -> usize {
         3 * self.set.s
