@@ -69,6 +69,14 @@ first-append [] ys t = refl
 first-append (k ∷ xs) ys t =
     joined-one (k .holds) (fine (k .gives)) (k .gives) (first xs) (first ys) (first (xs ++ ys)) (refusing xs) refl t (first-append xs ys)
 
+-- r is what a first group answers: a check of it holds
+pub group-stop : (xs ys : List Check) → T (refusing xs) → {r : Refusal} → r ≡ first xs → fine r ≡ false → first (xs ++ ys) ≡ r
+group-stop xs ys t e n = first-append xs ys t ∙ rw (← e, n)
+
+-- or none of it does
+pub group-skip : (xs ys : List Check) → T (refusing xs) → {r : Refusal} → r ≡ first xs → fine r ≡ true → first (xs ++ ys) ≡ first ys
+group-skip xs ys t e y = first-append xs ys t ∙ rw (← e, y)
+
 -- no check of a list holds
 abbrev pub NoneHolds : List Check → Type 0
 NoneHolds [] = Unit
@@ -86,3 +94,41 @@ none-holds [] t e = tt
 none-holds (k ∷ ks) t e =
     let x = passed-one (k .holds) (fine (k .gives)) (k .gives) (first ks) (refusing ks) refl t e in
     (x .0, none-holds ks (x .1 .0) (x .1 .1))
+
+-- where r is what they answer, and refuses nothing
+pub group-none : (ks : List Check) → T (refusing ks) → {r : Refusal} → r ≡ first ks → fine r ≡ true → NoneHolds ks
+group-none ks t {r} e f = none-holds ks t (sym e ∙ fine-is r f)
+
+-- ---- checks 2 to 6 in their order, whatever their conditions
+
+module _ (tables keys message limit room : Bool) where
+  abbrev answered : Refusal
+  answered = first (when tables Table ∷ when keys Key ∷ when message Message ∷ when limit Limit ∷ when room Room ∷ [])
+
+  pub first-table : tables ≡ true → Table ≡ answered
+  unfolding first
+  first-table a = rw a
+
+  module _ (a : tables ≡ false) where
+    pub first-key : keys ≡ true → Key ≡ answered
+    unfolding first
+    first-key b = rw (a, b)
+
+    module _ (b : keys ≡ false) where
+      pub first-message : message ≡ true → Message ≡ answered
+      unfolding first
+      first-message c = rw (a, b, c)
+
+      module _ (c : message ≡ false) where
+        pub first-limit : limit ≡ true → Limit ≡ answered
+        unfolding first
+        first-limit d = rw (a, b, c, d)
+
+        module _ (d : limit ≡ false) where
+          pub first-room : room ≡ true → Room ≡ answered
+          unfolding first
+          first-room e = rw (a, b, c, d, e)
+
+          pub first-none : room ≡ false → Fine ≡ answered
+          unfolding first
+          first-none e = rw (a, b, c, d, e)

@@ -19,6 +19,7 @@ use Rattle.answers.specs.declared.Refusal.the-variants.{Fine}
 use Rattle.answers.specs.Answers.{Check, first, answer}
 use Rattle.answers.specs.Conditions.{limitOut}
 use Rattle.answers.proofs.AnswersLaws.{refusing, first-append}
+use Rattle.answers.proofs.ConditionsLaws.{neither}
 use Rattle.hashing.specs.Hashing.{h}
 use Rattle.challenge.specs.Blocks.{firstValues}
 use Rattle.challenge.proofs.BlocksLaws.{length-first, enough-after, first-after, first-small}
@@ -28,7 +29,7 @@ use Rattle.signer.specs.Sign as sign
 use Rattle.verifier.specs.Verify as verify
 use Rattle.demands.specs.Sound.{Reread}
 use Rattle.demands.specs.Accepted.{again, Enough, SignedIsAccepted, VerifyingAnswersZero}
-use Rattle.demands.proofs.SigningLaws.{neither, Passed, passed, made, answered-bytes, length-alone}
+use Rattle.demands.proofs.SigningLaws.{Passed, passed, made, answered-bytes, length-alone}
 use Rattle.demands.proofs.HonestRunsProof.{reread}
 
 -- groups of checks that pass one after the other

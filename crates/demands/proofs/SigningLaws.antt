@@ -1,6 +1,6 @@
 -- What it means that signing refuses nothing: each check has passed, and the bytes that are answered are the signature.
 use mathlib.Core.Path.{_≡_, refl, ap, _∙_}
-use mathlib.Core.Bool.{Bool, true, false, cond, _||_}
+use mathlib.Core.Bool.{false, _||_}
 use mathlib.Core.List.{_++_}
 use Prim.Native.Nat.{ℕ, _<_, _^_}
 use native.Mathlib.Omega.{arith}
@@ -19,15 +19,11 @@ use Rattle.answers.specs.declared.Refusal.the-variants.{Fine}
 use Rattle.answers.specs.Answers.{number, first, answer}
 use Rattle.answers.specs.Conditions.{other, tablesOther, keysOther, messageOut, limitOut, tooShort}
 use Rattle.answers.proofs.AnswersLaws.{fine-is, none-holds}
-use Rattle.answers.proofs.ConditionsLaws.{same-length}
+use Rattle.answers.proofs.ConditionsLaws.{neither, same-length}
 use Rattle.lowmc.specs.Encrypted.{encrypted}
 use Rattle.challenge.specs.Blocks.{tooFew}
 use Rattle.views.specs.Input.{ciphertext, plaintext}
 use Rattle.signer.specs.Sign.{Given, Signed, lengthChecks, checks, firstBlock, signatureOf, signatureBy, refusalFor, refusal, written}
-
-pub neither : (a b : Bool) → (a || b) ≡ false → (a ≡ false) × (b ≡ false)
-neither true b e = absurd (let z : _≡_ {A = ℕ} 0 1 = ap (λ (c : Bool). cond c 0 1) e in omega arith)
-neither false b e = (refl, e)
 
 -- what the checks of signing leave
 pub record Passed (p : Set) (g : Given) : Type 0 where

@@ -1,4 +1,3 @@
-pub mod CheckLaws
 pub mod SeedLaws
 pub mod PlayLaws
 pub mod WriteLaws

@@ -1,10 +1,9 @@
 -- Laws of the call that signs: the key pair, the challenge of the filled room, what is left after it, and the promise from what each check found.
 use mathlib.Core.Path.{_≡_, refl, sym, ap, _∙_, subst}
-use mathlib.Core.Bool.{Bool, true, false, cond, not, _||_}
+use mathlib.Core.Bool.{Bool, true, false, not}
 use mathlib.Core.List.{List, [], _∷_}
 use Prim.Native.Nat.{ℕ, _-_, _*_, _≤_}
 use native.Mathlib.Omega.{arith}
-use lib.Dec.{T}
 use lib.ListN.{length, take, drop, length-append, length-drop}
 use borrow.Author.Tests.{ltb-false}
 use Rattle.slices.specs.Slices.{Bytes, over, cleared, equal, joined}
@@ -18,9 +17,9 @@ use Rattle.sets.specs.Lengths.{w, seedWidth, publicLength, roomLength, seedsLen
 use Rattle.answers.specs.declared.Refusal.{Refusal}
 use Rattle.answers.specs.declared.Refusal.the-variants.{Fine, NoSet, Pair, Blocks}
 use Rattle.answers.specs.Answers.{Check, when, first, fine, answer}
-use Rattle.answers.specs.Conditions.{other, keysOther, tooShort}
-use Rattle.answers.proofs.AnswersLaws.{fine-is, stop, skip, first-append, none-holds}
-use Rattle.answers.proofs.ConditionsLaws.{same-length, tables-same}
+use Rattle.answers.specs.Conditions.{other, tooShort}
+use Rattle.answers.proofs.AnswersLaws.{stop, skip, group-stop, group-skip, group-none}
+use Rattle.answers.proofs.ConditionsLaws.{neither, same-length, tables-same, keys-same}
 use Rattle.circuit.specs.Lowmc.{Cipher, encryption}
 use Rattle.circuit.specs.Round.{Party}
 use Rattle.lowmc.specs.Lent.{cipherOf, Lent}
@@ -147,10 +146,6 @@ module _ {p : Set} (i : IsSet p) (g : Given) where
 
 -- ---- what the checks of lengths leave
 
-neither : (a b : Bool) → (a || b) ≡ false → (a ≡ false) × (b ≡ false)
-neither true b e = absurd (let z : _≡_ {A = ℕ} 0 1 = ap (λ (c : Bool). cond c 0 1) e in omega arith)
-neither false b e = (refl, e)
-
 -- what stands where none of them holds
 pub record Fitting (p : Set) (g : Given) : Type 0 where
   pub lent : Lent p (g .keys) (g .layers) (g .constants)
@@ -167,17 +162,17 @@ lengthsOf p g =
     (g .limit) (length (g .seeds)) (length (g .room)) (length (g .output))
 
 pub fitting : {p : Set} → IsSet p → (g : Given) (r : Refusal) → r ≡ first (lengthsOf p g) → fine r ≡ true → Fitting p g
-unfolding lengthChecks keysOther
+unfolding lengthChecks
 fitting {p} i g r e f =
-    let n = none-holds (lengthsOf p g) tt (sym e ∙ fine-is r f) in
+    let n = group-none (lengthsOf p g) tt e f in
     let tables = tables-same p (length (g .keys)) (length (g .layers)) (length (g .constants)) (n .0) in
-    let keys = neither (other (w p) (length (g .secret))) (other (publicLength p) (length (g .public))) (n .1 .0) in
+    let keys = keys-same p (length (g .secret)) (length (g .public)) (n .1 .0) in
     let rooms = neither _ (tooShort (longest p) (length (g .output))) (n .1 .1 .1 .1 .0) in
     let two = neither (other (seedsLength p) (length (g .seeds))) (tooShort (roomLength p) (length (g .room))) (rooms .0) in
     record {
       lent = record { is-set = i; keys-length = tables .0; layers-length = tables .1; constants-length = tables .2 };
-      secret-wide = same-length (w p) (length (g .secret)) (keys .0);
-      public-long = same-length (publicLength p) (length (g .public)) (keys .1);
+      secret-wide = keys .0;
+      public-long = keys .1;
       seeds-long = same-length (seedsLength p) (length (g .seeds)) (two .0);
       room-enough = ltb-false _ _ (two .1);
       output-enough = ltb-false _ _ (rooms .1);
@@ -205,7 +200,7 @@ module _ (g : Given) (a : ℕ) where
       pub stopped : fine r ≡ false → a ≡ answer r 0 → Signed g a (g .room) (g .output)
       unfolding checks lengthChecks clears
       stopped n q =
-          let s : first (checks p g) ≡ r = first-append (lengthsOf p g) _ tt ∙ rw (← f, n) in
+          let s : first (checks p g) ≡ r = group-stop (lengthsOf p g) _ tt f n in
           kept r s n (rw (← f) at (keeps-first (lengthsOf p g) tt (rw (← f) n))) q
 
       module _ (y : fine r ≡ true) where
@@ -215,7 +210,7 @@ module _ (g : Given) (a : ℕ) where
         -- where the lengths are right, 7 and 8 are left
         passes : first (checks p g) ≡ first (when (not pairs) Pair ∷ when (tooFew p (firstBlock p g) (g .limit)) Blocks ∷ [])
         unfolding checks lengthChecks
-        passes = first-append (lengthsOf p g) _ tt ∙ rw (← f, y)
+        passes = group-skip (lengthsOf p g) _ tt f y
 
         -- the keys are no pair
         pub unpaired : pairs ≡ false → a ≡ answer Pair 0 → Signed g a (g .room) (g .output)

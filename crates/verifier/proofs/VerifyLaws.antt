@@ -13,7 +13,7 @@ use Rattle.sets.specs.Lengths.{salt, header, publicLength, roomLength}
 use Rattle.answers.specs.declared.Refusal.{Refusal}
 use Rattle.answers.specs.declared.Refusal.the-variants.{Fine, NoSet, Blocks, Differs}
 use Rattle.answers.specs.Answers.{Check, first, fine, answer}
-use Rattle.answers.proofs.AnswersLaws.{fine-is, first-append, none-holds}
+use Rattle.answers.proofs.AnswersLaws.{group-stop, group-skip, group-none}
 use Rattle.answers.proofs.ConditionsLaws.{same-length, tables-same}
 use Rattle.hashing.specs.Hashing.{h}
 use Rattle.lowmc.specs.Lent.{cipherOf, Lent}
@@ -54,7 +54,7 @@ lengthsOf p g =
 pub fitting : {p : Set} → IsSet p → (g : Given) (r : Refusal) → r ≡ first (lengthsOf p g) → fine r ≡ true → Fitting p g
 unfolding lengthChecks
 fitting {p} i g r e f =
-    let n = none-holds (lengthsOf p g) tt (sym e ∙ fine-is r f) in
+    let n = group-none (lengthsOf p g) tt e f in
     let tables = tables-same p (length (g .keys)) (length (g .layers)) (length (g .constants)) (n .0) in
     record {
       lent = record { is-set = i; keys-length = tables .0; layers-length = tables .1; constants-length = tables .2 };
@@ -97,19 +97,19 @@ module _ (g : Given) (a : ℕ) where
       pub stopped : fine r ≡ false → a ≡ answer r 0 → Verified g a (g .room)
       unfolding checks lengthChecks clears
       stopped n q =
-          let s : first (checks p g) ≡ r = first-append (lengthsOf p g) _ tt ∙ rw (← f, n) in
+          let s : first (checks p g) ≡ r = group-stop (lengthsOf p g) _ tt f n in
           kept r s (rw (← f) at (keeps-first (lengthsOf p g) tt (rw (← f) n))) q
 
       module _ (y : fine r ≡ true) {u : Refusal} (d : u ≡ first (readChecks p (g .signature))) where
         passes : first (checks p g) ≡ first (readChecks p (g .signature) ++ verdictOf p g)
         unfolding checks lengthChecks
-        passes = first-append (lengthsOf p g) _ tt ∙ rw (← f, y)
+        passes = group-skip (lengthsOf p g) _ tt f y
 
         -- the signature does not read
         pub unread : fine u ≡ false → a ≡ answer u 0 → Verified g a (g .room)
         unfolding readChecks clears
         unread n q =
-            let s : first (checks p g) ≡ u = passes ∙ (first-append (readChecks p (g .signature)) _ tt ∙ rw (← d, n)) in
+            let s : first (checks p g) ≡ u = passes ∙ group-stop (readChecks p (g .signature)) _ tt d n in
             kept u s (rw (← d) at (keeps-first (readChecks p (g .signature)) tt (rw (← d) n))) q
 
         -- it does, and the verdict was reached
@@ -117,7 +117,7 @@ module _ (g : Given) (a : ℕ) where
             → Verified g a room
         unfolding readChecks refusalFor roomAfter
         judged n {v} j q o =
-            let s : first (checks p g) ≡ v = passes ∙ (first-append (readChecks p (g .signature)) _ tt ∙ rw (← d, n) (sym j)) in
+            let s : first (checks p g) ≡ v = passes ∙ (group-skip (readChecks p (g .signature)) _ tt d n ∙ sym j) in
             record { answered = rw (e, s) q; left = rw (e, s, cleared-by p _ (g .limit) _ v j) o }
 
 -- ---- the promise settles the outcome
