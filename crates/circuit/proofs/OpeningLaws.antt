@@ -1,7 +1,7 @@
 -- What a verifier makes of an honest opening; and the key from three openings that agree.
 use mathlib.Core.Path.{_≡_, refl, sym, ap₂, _∙_}
 use mathlib.Core.Bool.{Bool}
-use Prim.Native.Nat.{ℕ, zero, suc, _*_, _<_, _≤_}
+use Prim.Native.Nat.{ℕ, zero, suc, _<_, _≤_}
 use native.Mathlib.Nat.{le-refl}
 use native.Mathlib.Omega.{arith}
 use Rattle.bits.specs.Bits.{_⊻_, Bits, _⊕_, Agree}
@@ -9,7 +9,7 @@ use Rattle.bits.specs.Rows.{Rows}
 use Rattle.bits.proofs.BitsLaws.{xor-rules, ⊕-at, ⊕-rules}
 use Rattle.circuit.specs.Lowmc.{Cipher, start, stateAfter, encryption}
 use Rattle.circuit.specs.Round.{Party, party0, party1, party2, next, third, gates, advance, intoShare, stateShare, transcript, outputShare, intoFirst, intoSecond, Opening, state₁, state₂, transcript₁, output₁, output₂, output₃}
-use Rattle.circuit.specs.RoundTheorems.{xor3, SameGates, Opened, Recomputed, OpeningRecomputes, Agreeing, OpeningsYieldKey}
+use Rattle.circuit.specs.RoundTheorems.{xor3, SameGates, Opened, OpeningRecomputes, Agreeing, OpeningsYieldKey}
 use Rattle.circuit.proofs.RoundLaws.{advance-cong, replay, run, Meets, sound, signer-encrypts}
 
 -- the verifier's rule for constants is the signer's

@@ -1,21 +1,20 @@
 -- Three parties that follow transcripts in which each gate's bit is the one that the gate asks for: their shares are shares of
 -- LowMC's state. The signer's round is one such run.
-use mathlib.Core.Path.{_≡_, refl, sym, ap, ap₂, _∙_, fun-ext}
+use mathlib.Core.Path.{_≡_, refl, sym, ap, _∙_, fun-ext}
 use mathlib.Core.Logic.{⊎-elim}
 use mathlib.Core.Bool.{Bool, _&&_}
-use Prim.Native.Nat.{ℕ, zero, suc, _+_, _*_, _/_, _%_, _<_, _≤_}
+use Prim.Native.Nat.{ℕ, zero, suc, _+_, _*_, _/_, _<_, _≤_}
 use native.Mathlib.Nat.{le-refl}
 use native.Mathlib.Omega.{arith}
 use Rattle.bits.specs.Bits.{_⊻_, Bits, _⊕_, zeros, Agree}
 use Rattle.bits.specs.Rows.{Rows}
-use Rattle.bits.proofs.BitsLaws.{ring, xor-rules, ⊕-at, ⊕-rules, ⊕-zeros}
+use Rattle.bits.proofs.BitsLaws.{ring, ⊕-at, ⊕-rules, ⊕-zeros}
 use Rattle.bits.proofs.NumberLaws.{below}
-use Rattle.circuit.specs.Lowmc.{Cipher, inThree, start, step, stateAfter, encryption}
+use Rattle.circuit.specs.Lowmc.{Cipher, start, step, stateAfter, encryption}
 use Rattle.circuit.specs.Gates.{leftFactor, rightFactor, sboxesBy}
 use Rattle.circuit.specs.Round.{Party, party0, party1, party2, next, gate, gates, advance, intoShare, stateShare, transcript, outputShare}
 use Rattle.circuit.specs.RoundTheorems.{xor3, SameGates, OutputsEncrypt}
 use Rattle.circuit.proofs.MatricesLaws.{product-xor}
-use Rattle.circuit.proofs.LowmcLaws.{inThree-xor}
 use Rattle.circuit.proofs.GatesLaws.{left-xor, right-xor, products, sboxesBy-xor, sboxesBy-in, sboxesBy-past, sboxes-are}
 
 -- ---- what is linear in the shares

@@ -10,7 +10,7 @@ use Rattle.sets.specs.declared.Chosen.the-variants.{Known, Unknown}
 use Rattle.answers.specs.declared.Refusal.the-variants.{Fine, NoSet, Room}
 use Rattle.answers.specs.Answers.{first}
 use Rattle.answers.specs.Conditions.{hashMost}
-use Rattle.answers.specs.Outcome.{Outcome, refused, gives}
+use Rattle.answers.specs.Outcome.{refused, gives}
 use Rattle.answers.proofs.OutcomeLaws.{set-unknown, set-known, unless-refused, unless-given}
 use Rattle.hashing.specs.Hashing.{kdf}
 use Rattle.hashing.specs.HashCall.{hashChecks, hashed}

@@ -1,15 +1,14 @@
 // What Picnic hashes, over the SHAKE of a set, and the two calls that only hash.
 ghost use mathlib.Core.Path.{_≡_};
 ghost use mathlib.Core.List.{[], _∷_, _++_};
-ghost use Prim.Native.Nat.{_≤_, _<_};
+ghost use Prim.Native.Nat.{_<_};
 ghost use lib.ListN.{length};
-ghost use Rattle.slices.specs.Slices.{over};
 ghost use Rattle.sets.specs.Sets.{IsSet, numbered};
 ghost use Rattle.sets.specs.Lengths.{seedsLength};
 ghost use Rattle.answers.specs.Answers.{first};
 ghost use Rattle.answers.specs.Outcome.{Promise};
 ghost use Rattle.shake.specs.Sponge.{started, absorbed, Taking};
-ghost use Rattle.hashing.specs.Hashing.{h, kdf, derivedSeeds, tapeInput, tape, view, commitment};
+ghost use Rattle.hashing.specs.Hashing.{h, kdf, derivedSeeds, tapeInput, tape, commitment};
 ghost use Rattle.hashing.specs.HashCall.{hashed};
 ghost use Rattle.hashing.specs.SeedsCall.{seedsChecks, seeded};
 use answers::Refusal;

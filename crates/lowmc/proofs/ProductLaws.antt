@@ -1,14 +1,13 @@
 -- Laws of the product: the count of ones word by word, the word that 64 rows give, and the rows' places.
 use mathlib.Core.Path.{_≡_, refl, sym, ap, ap₂, _∙_}
 use mathlib.Core.Bool.{Bool, _&&_}
-use mathlib.Core.List.{List}
 use Prim.Native.Nat.{ℕ, _+_, _-_, _*_, _%_, _^_, _≤_, _<_}
 use native.Mathlib.Nat.{lt-of-le-of-lt, lt-of-lt-of-le}
 use native.Mathlib.Numerals.{add-one}
 use native.Mathlib.Omega.{arith}
 use lib.Bits.{bitAnd, bitXor, and-le-l, xor-mod}
 use lib.Count.{ones}
-use lib.ListN.{length, getD, take, drop}
+use lib.ListN.{getD, take, drop}
 use lib.Pow.{pow-mono}
 use Rattle.slices.specs.Slices.{Bytes}
 use Rattle.bits.specs.Bits.{_⊻_, Bits, Agree, from}
@@ -21,7 +20,6 @@ use Rattle.bits.proofs.WordsLaws.{holds-and, holds-value, ones-holds, zero-bits
 use Rattle.bits.proofs.TurnedLaws.{low-at, parity-turned}
 use Rattle.circuit.specs.Matrices.{Matrix, rowParity, product}
 use Rattle.lowmc.specs.Lent.{row}
-use Rattle.lowmc.proofs.LentLaws.{part-long}
 
 -- ---- counts of ones
 

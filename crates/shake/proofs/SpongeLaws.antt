@@ -12,10 +12,10 @@ use borrow.Author.Tests.{eq-eqb, ne-eqb, eqb-true, eqb-false}
 use Rattle.keccak.specs.Lanes.{Lanes, permuted}
 use Rattle.keccak.proofs.LanesLaws.{length-permuted}
 use Rattle.slices.specs.Slices.{Bytes, part, put}
-use Rattle.slices.proofs.SliceLaws.{put-none, put-put, put-start, over-whole, length-put}
+use Rattle.slices.proofs.SliceLaws.{put-none, put-put, put-start, over-whole}
 use Rattle.shake.specs.declared.Sponge.{Sponge}
 use Rattle.shake.specs.Shake.{byteAt, bytesAt, byteAdded, added}
-use Rattle.shake.specs.Sponge.{sponge, absorbedByte, absorbed, padded, ready, passed, given, squeezed, Taking, Giving, AbsorbsInPieces, SqueezesInPieces}
+use Rattle.shake.specs.Sponge.{sponge, absorbedByte, absorbed, ready, passed, given, squeezed, Taking, Giving, AbsorbsInPieces, SqueezesInPieces}
 use Rattle.shake.proofs.PartLaws.{length-part}
 use Rattle.shake.proofs.StateLaws.{length-byteAdded}
 

@@ -1,7 +1,6 @@
 -- `hashing::derive` meets its contract.
 use native.Mathlib.Omega.{arith}
 use mathlib.Core.Path.{_∙_, ap}
-use Prim.Native.Nat.{ℕ}
 use Rattle.sets.specs.declared.Set.{Set}
 use Rattle.sets.proofs.Each.{most}
 use Rattle.shake.specs.declared.Sponge.{Sponge}

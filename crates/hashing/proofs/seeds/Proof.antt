@@ -5,13 +5,11 @@ use Prim.Native.Nat.{ℕ, _≤_}
 use lib.ListN.{length}
 use lib.Seq.{length-take-le}
 use borrow.Author.Tests.{not-true, not-false}
-use Rattle.sets.specs.declared.Set.{Set}
 use Rattle.sets.specs.declared.Chosen.the-variants.{Known}
 use Rattle.sets.specs.Sets.{numbered}
 use Rattle.sets.specs.Lengths.{seedsLength}
 use Rattle.sets.proofs.Each.{known-set, most}
 use Rattle.bits.specs.Bytes.{width}
-use Rattle.slices.specs.Slices.{over}
 use Rattle.answers.specs.declared.Refusal.the-variants.{Fine, NoSet}
 use Rattle.answers.specs.Answers.{answer}
 use Rattle.answers.proofs.OutcomeLaws.{promise-refused, promise-given}

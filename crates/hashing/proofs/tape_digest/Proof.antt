@@ -1,9 +1,7 @@
 -- `hashing::tape_digest` meets its contract.
 use mathlib.Core.Path.{_∙_}
 use native.Mathlib.Omega.{arith}
-use mathlib.Core.List.{[], _∷_, _++_, append-assoc}
-use Rattle.slices.specs.Slices.{Bytes}
-use Rattle.hashing.specs.Hashing.{tapeInput, le16}
+use Rattle.hashing.specs.Hashing.{tapeInput}
 use Rattle.hashing.proofs.HashingLaws.{fed-more, h-given, fed-tape}
 use borrow.Author.Needs.{needs}
 use Rattle.hashing.proofs.tape_digest.Statement.{statement}

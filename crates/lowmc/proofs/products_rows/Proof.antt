@@ -1,10 +1,9 @@
 -- `lowmc::products_rows` meets its contract.
 use native.Mathlib.Omega.{arith}
 use Prim.Native.Nat.{_*_}
-use Rattle.bits.specs.Bits.{Bits}
 use Rattle.bits.specs.Words.{blockBits}
 use Rattle.bits.proofs.WordsLaws.{four-words}
-use Rattle.circuit.specs.Matrices.{Matrix, product}
+use Rattle.circuit.specs.Matrices.{product}
 use Rattle.circuit.proofs.MatricesLaws.{product-past}
 use Rattle.lowmc.specs.Lent.{row}
 use borrow.Author.Needs.{needs}

@@ -1,5 +1,5 @@
 -- `vectors::shake_cases` meets its contract.
-use Prim.Native.Nat.{_≤_, _<_, _+_, _-_}
+use Prim.Native.Nat.{_≤_, _-_}
 use lib.ListN.{length}
 use borrow.Author.Needs.{needs}
 use Rattle.vectors.proofs.shake_cases.Statement.{statement}
