@@ -3,30 +3,30 @@ use mathlib.Core.Path.{_≡_, sym, ap, _∙_}
 use mathlib.Core.List.{List, _++_, append-assoc}
 use Prim.Native.Nat.{ℕ, _+_, _*_, _≤_, _<_}
 use native.Mathlib.Omega.{arith}
-use lib.ListN.{length, getD, set, length-append}
+use lib.ListN.{length, set, length-append}
 use lib.Seq.{take-at, take-all}
 use Rattle.slices.specs.Slices.{Bytes, put, over}
 use Rattle.slices.proofs.SliceLaws.{put-start, put-put, length-put}
-use Rattle.bits.specs.Bits.{upTo}
-use Rattle.bits.specs.Bytes.{bytes, bytesOf}
+use Rattle.bits.specs.Bits.{Bits, from}
+use Rattle.bits.specs.Bytes.{value, bytes, bytesOf}
 use Rattle.bits.proofs.BytesLaws.{length-bytes, put-byte, put-no-bytes}
 use Rattle.sets.specs.declared.Set.{Set}
 use Rattle.sets.specs.Lengths.{header, roundLeast, roundMost}
 use Rattle.shape.specs.Fields.{sizes}
-use Rattle.shape.specs.Header.{pairBits, headerOf, AreValues}
+use Rattle.shape.specs.Header.{pairBits, headerOf}
 use Rattle.shape.specs.Rounds.{round}
 use Rattle.shape.specs.Form.{Sized, slotOf, roundOf}
-use Rattle.shape.proofs.HeaderLaws.{header-byte}
+use Rattle.shape.proofs.HeaderLaws.{pairs-end}
 use Rattle.shape.proofs.RoundsLaws.{sizes-zero, sizes-other}
 use Rattle.shape.proofs.RoundLaws.{pack-round}
 use Rattle.shape.proofs.ShownLaws.{length-slotOf}
-use Rattle.parts.specs.Places.{fourOf, showing}
+use Rattle.parts.specs.Places.{showing}
 
 -- ---- the header
 
 -- the first i bytes of the header of values are written
 pub record Headed (vs : List ℕ) (out₀ : Bytes) (i : ℕ) (out : Bytes) : Type 0 where
-  pub is : out ≡ put out₀ 0 (bytes i (upTo (2 * length vs) (pairBits vs)))
+  pub is : out ≡ put out₀ 0 (bytes i (pairBits vs))
   pub far : i ≤ length out₀
 
 pub headed-none : (vs : List ℕ) (out₀ : Bytes) → Headed vs out₀ 0 out₀
@@ -35,27 +35,23 @@ headed-none vs out₀ = record { is = put-no-bytes out₀ 0 _; far = omega arith
 module _ {vs : List ℕ} {out₀ : Bytes} {i : ℕ} {out : Bytes} (h : Headed vs out₀ i out) where
   pub headed-length : length out ≡ length out₀
   headed-length =
-      let l : length (bytes i (upTo (2 * length vs) (pairBits vs))) ≡ i = length-bytes i (upTo (2 * length vs) (pairBits vs)) in
-      ap length (h .is) ∙ length-put out₀ 0 (bytes i (upTo (2 * length vs) (pairBits vs))) (omega (arith, h .far))
+      let l : length (bytes i (pairBits vs)) ≡ i = length-bytes i (pairBits vs) in
+      ap length (h .is) ∙ length-put out₀ 0 (bytes i (pairBits vs)) (omega (arith, h .far))
 
-  pub headed-more : (p : Set) → length vs ≡ p .t → AreValues vs → i < length out₀ → (b : ℕ) → b ≡ fourOf vs i
-      → Headed vs out₀ (i + 1) (set out i b)
-  headed-more p e v l b g =
+  pub headed-more : i < length out₀ → (b : ℕ) → b ≡ value 8 (from (8 * i) (pairBits vs)) → Headed vs out₀ (i + 1) (set out i b)
+  headed-more l b g =
       record {
         is =
             rw (h .is)
-            (ap (λ (n : ℕ). set (put out₀ 0 (bytes i (upTo (2 * length vs) (pairBits vs)))) n b) (omega arith)
-            ∙ put-byte out₀ 0 i b (upTo (2 * length vs) (pairBits vs)) (omega arith)
-            (rw e (g ∙ header-byte p vs i e (λ k. small k (v k)))));
+            (ap (λ (n : ℕ). set (put out₀ 0 (bytes i (pairBits vs))) n b) (omega arith)
+            ∙ put-byte out₀ 0 i b (pairBits vs) (omega arith) g);
         far = omega arith;
       }
-    where
-      small : (k : ℕ) → getD vs k 0 < 3 → getD vs k 0 < 4
-      small k q = omega arith
 
   pub headed-all : (p : Set) → length vs ≡ p .t → i ≡ header p → out ≡ over (headerOf p vs) out₀
   unfolding headerOf bytesOf
-  headed-all p e g = h .is ∙ (rw (g, e) (put-start out₀ _))
+  headed-all p e g =
+      h .is ∙ ap (λ (f : Bits). put out₀ 0 (bytes i f)) (sym (pairs-end vs)) ∙ (rw (g, e) (put-start out₀ _))
 
 -- ---- a round
 

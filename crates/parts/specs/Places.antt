@@ -1,7 +1,6 @@
 -- Where the parts of a round stand in a signature, and what a walk through its rounds finds.
 use mathlib.Core.Path.{_≡_}
-use mathlib.Core.List.{List}
-use Prim.Native.Nat.{ℕ, _+_, _-_, _*_, _≤_}
+use Prim.Native.Nat.{ℕ, _+_, _-_, _≤_}
 use lib.ListN.{length, getD, replicate}
 use Rattle.slices.specs.Slices.{Bytes, part}
 use Rattle.sets.specs.declared.Set.{Set}
@@ -52,10 +51,6 @@ pub record Located (p : Set) (s : Bytes) (k : ℕ) (r : Here) : Type 0 where
   pub none : r .value ≡ 0 → shownIn p (form p s) k .share ≡ replicate (w p) 0
   pub round : r .next .round ≡ k + 1
   pub stands : Stands p s (r .next)
-
--- four values in a byte, the first in the high bits
-abbrev pub fourOf : List ℕ → ℕ → ℕ
-fourOf vs i = getD vs (4 * i) 0 * 64 + getD vs (4 * i + 1) 0 * 16 + getD vs (4 * i + 2) 0 * 4 + getD vs (4 * i + 3) 0
 
 -- what is shown of a round, from its parts
 abbrev pub showing : (commitment transcript seed1 seed2 share : Bytes) → Shown

@@ -4,16 +4,17 @@ ghost use mathlib.Core.List.{_++_};
 ghost use Prim.Native.Nat.{_+_, _*_, _≤_, _<_};
 ghost use lib.ListN.{length, getD, drop};
 ghost use Rattle.slices.specs.Slices.{put, over};
-ghost use Rattle.bits.specs.Bytes.{width};
+ghost use Rattle.bits.specs.Bits.{from};
+ghost use Rattle.bits.specs.Bytes.{value, width};
 ghost use Rattle.sets.specs.Sets.{IsSet};
 ghost use Rattle.sets.specs.Lengths.{salt, header};
 ghost use Rattle.answers.specs.Answers.{first};
 ghost use Rattle.shape.specs.Fields.{all, sizes, padded};
-ghost use Rattle.shape.specs.Header.{headerOf, valueAt, values, isValue, AreValues};
+ghost use Rattle.shape.specs.Header.{pairBits, headerOf, valueAt, values, isValue, AreValues};
 ghost use Rattle.shape.specs.Rounds.{gates, round, signatureLength};
 ghost use Rattle.shape.specs.Form.{Sized, roundOf};
 ghost use Rattle.shape.specs.Reading.{headerWrong, paddingWrong, readChecks};
-ghost use Rattle.parts.specs.Places.{partsAt, Stands, Located, fourOf, showing};
+ghost use Rattle.parts.specs.Places.{partsAt, Stands, Located, showing};
 use answers::Refusal;
 use sets::Set;
 
@@ -222,7 +223,7 @@ fn value_or_zero(values: &[u8], k: usize) -> u8
 // Byte i of a header: four values, the first in the high bits.
 fn header_byte(values: &[u8], i: usize) -> u8
     requires { ⌜ (i ≤ 65536) × AreValues (now values) ⌝ }
-    ensures { λ b. ⌜ b ≡ fourOf (now (values .entry)) i ⌝ }
+    ensures { λ b. ⌜ b ≡ value 8 (from (8 * i) (pairBits (now (values .entry)))) ⌝ }
 {
     let k = 4 * i;
     value_or_zero(values, k) * 64

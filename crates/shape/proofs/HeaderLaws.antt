@@ -168,30 +168,37 @@ value-in-byte s k =
     four ∙ (ap₂ (λ (a b : ℕ). 2 * (a % 2) + b) two (digit-odd x)
     ∙ (ap (λ (a : ℕ). 2 * a + digit (odd x)) (digit-odd y) ∙ sym (ap₂ (λ (a b : Bool). 2 * digit a + digit b) hi lo)))
 
--- two bits of a header are a value; past the last there are none
-pair-value : (p : Set) (vs : List ℕ) (k : ℕ) → length vs ≡ p .t → getD vs k 0 < 4
-    → value 2 (from (2 * k) (upTo (2 * p .t) (pairBits vs))) ≡ getD vs k 0
+-- past the last value there are no bits
+pub pairs-end : (vs : List ℕ) → upTo (2 * length vs) (pairBits vs) ≡ pairBits vs
+unfolding pairBits
+pairs-end vs = λ q i. at i q
+  where
+    at : (i : ℕ) → upTo (2 * length vs) (pairBits vs) i ≡ pairBits vs i
+    at i =
+        ⊎-elim (λ (h : i < 2 * length vs). upTo-in (2 * length vs) (pairBits vs) i h)
+        (λ (h : 2 * length vs ≤ i).
+        upTo-out (2 * length vs) (pairBits vs) i h
+        ∙ sym (ap (λ (v : ℕ). bit v (place (i % 2))) (List·getD-eq-default vs 0 (omega arith)) ∙ bit-zero (place (i % 2))))
+        (below i (2 * length vs))
+
+-- two bits of a header are a value
+pair-value : (vs : List ℕ) (k : ℕ) → getD vs k 0 < 4 → value 2 (from (2 * k) (pairBits vs)) ≡ getD vs k 0
 unfolding value pairBits place
-pair-value p vs k e h =
+pair-value vs k h =
     ap₂ (λ (a b : Bool). (0 * 2 + digit a) * 2 + digit b) (there 0 (omega arith)) (there 1 (omega arith))
     ∙ (omega arith ∙ two-of-value (getD vs k 0) h)
   where
-    there : (b : ℕ) → b < 2 → upTo (2 * p .t) (pairBits vs) (2 * k + b) ≡ bit (getD vs k 0) (1 - b)
+    there : (b : ℕ) → b < 2 → pairBits vs (2 * k + b) ≡ bit (getD vs k 0) (place b)
     there b l =
         let d : (2 * k + b) / 2 ≡ k = omega arith in
         let m : (2 * k + b) % 2 ≡ b = omega arith in
-        ⊎-elim
-        (λ (q : k < p .t). upTo-in (2 * p .t) (pairBits vs) (2 * k + b) (omega arith) ∙ ap₂ (λ (i j : ℕ). bit (getD vs i 0) (1 - j)) d m)
-        (λ (q : p .t ≤ k).
-        upTo-out (2 * p .t) (pairBits vs) (2 * k + b) (omega arith)
-        ∙ sym (ap (λ (v : ℕ). bit v (1 - b)) (List·getD-eq-default vs 0 (omega arith)) ∙ bit-zero (1 - b)))
-        (below k (p .t))
+        ap₂ (λ (i j : ℕ). bit (getD vs i 0) (place j)) d m
 
 -- a byte of a header is made of four values
-pub header-byte : (p : Set) (vs : List ℕ) (i : ℕ) → length vs ≡ p .t → ((k : ℕ) → getD vs k 0 < 4)
+pub header-byte : (vs : List ℕ) (i : ℕ) → ((k : ℕ) → getD vs k 0 < 4)
     → getD vs (4 * i) 0 * 64 + getD vs (4 * i + 1) 0 * 16 + getD vs (4 * i + 2) 0 * 4 + getD vs (4 * i + 3) 0
-    ≡ value 8 (from (8 * i) (upTo (2 * p .t) (pairBits vs)))
-header-byte p vs i e small =
+    ≡ value 8 (from (8 * i) (pairBits vs))
+header-byte vs i small =
     let x1 : Bits = from 2 x in
     let x2 : Bits = from 2 x1 in
     let x3 : Bits = from 2 x2 in
@@ -200,17 +207,14 @@ header-byte p vs i e small =
       value-add 2 6 x,
       value-add 2 4 x1,
       value-add 2 2 x2,
-      pair x (4 * i) (λ j. ap y (omega arith)),
-      pair x1 (4 * i + 1) (λ j. ap y (omega arith)),
-      pair x2 (4 * i + 2) (λ j. ap y (omega arith)),
-      pair x3 (4 * i + 3) (λ j. ap y (omega arith)),
+      pair x (4 * i) (λ j. ap (pairBits vs) (omega arith)),
+      pair x1 (4 * i + 1) (λ j. ap (pairBits vs) (omega arith)),
+      pair x2 (4 * i + 2) (λ j. ap (pairBits vs) (omega arith)),
+      pair x3 (4 * i + 3) (λ j. ap (pairBits vs) (omega arith)),
     )
   where
-    y : Bits
-    y = upTo (2 * p .t) (pairBits vs)
-
     x : Bits
-    x = from (8 * i) y
+    x = from (8 * i) (pairBits vs)
 
-    pair : (f : Bits) (k : ℕ) → ((j : ℕ) → f j ≡ y (2 * k + j)) → value 2 f ≡ getD vs k 0
-    pair f k g = value-cong 2 f (from (2 * k) y) (λ j l. g j) ∙ pair-value p vs k e (small k)
+    pair : (f : Bits) (k : ℕ) → ((j : ℕ) → f j ≡ pairBits vs (2 * k + j)) → value 2 f ≡ getD vs k 0
+    pair f k g = value-cong 2 f (from (2 * k) (pairBits vs)) (λ j l. g j) ∙ pair-value vs k (small k)

@@ -1,9 +1,13 @@
 -- `parts::header_byte` meets its contract.
-use Prim.Native.Nat.{_+_, _*_}
+use Prim.Native.Nat.{ℕ, _+_, _*_, _<_}
 use native.Mathlib.Omega.{arith}
+use Rattle.shape.proofs.HeaderLaws.{header-byte}
 use borrow.Author.Needs.{needs}
 use Rattle.parts.proofs.header_byte.Statement.{statement}
 use Rattle.parts.proofs.header_byte.Tie as tie
+
+small : {v : ℕ} → v < 3 → v < 4
+small h = omega arith
 
 mul-k : tie.Need-mul-k
 mul-k c = search needs
@@ -61,7 +65,15 @@ add-result-3 c =
     )
 
 returns : tie.Need-returns
-returns c = search needs
+returns c =
+    let start = c .before .before .before .before .before in
+    rw (
+      c .before .before .before .value-or-zero .ensures,
+      c .before .before .value-or-zero2 .ensures,
+      c .before .value-or-zero3 .ensures,
+      c .value-or-zero4 .ensures,
+    )
+    (header-byte (start .args .values .now) (start .args .i) (λ k. small (start .pre .1 k)))
 
 pub header-byte-spec : {M : Type 1} → statement M
 header-byte-spec =

@@ -38,8 +38,7 @@ loop-less c = search needs
 loop-again : tie.Need-loop-again Inv-loop μ-loop
 loop-again c =
     let start = c .before .before .before .before .before .before in (
-      headed-more (c .before .before .loop .inv .0) (start .args .p) (start .pre .1 .0) (start .pre .1 .1 .0) (omega arith) _
-          (c .header-byte .ensures),
+      headed-more (c .before .before .loop .inv .0) (omega arith) _ (c .header-byte .ensures),
       omega arith,
     )
 
