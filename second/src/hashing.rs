@@ -1,5 +1,6 @@
 //! What Picnic hashes: digests with a prefix, derived seeds, tapes and
-//! commitments, as 01's section on hashing has them.
+//! commitments, as 01's section on hashing has them, with the tapes as 02
+//! mends them.
 //!
 //! An input is given by its parts, which are taken in one after the other.
 
@@ -45,11 +46,13 @@ pub fn tape_bytes(set: &Set, party: usize) -> usize {
     share + set.transcript_bytes()
 }
 
-/// The tape of a party in a round.
+/// The tape of a party in a round. The seed is hashed alone, with H_2; salt and
+/// integers go into the KDF beside its digest.
 pub fn tape(set: &Set, seed: &[u8], salt: &[u8], round: usize, party: usize) -> Vec<u8> {
     let length = tape_bytes(set, party);
-    let parts = [seed, salt, &le16(round), &le16(party), &le16(length)];
-    kdf(set, &[&digest(set, 2, &parts)], length)
+    let seed = digest(set, 2, &[seed]);
+    let parts = [&seed[..], salt, &le16(round), &le16(party), &le16(length)];
+    kdf(set, &parts, length)
 }
 
 /// The commitment to a party's seed and view.
@@ -184,20 +187,20 @@ mod tests {
     }
 
     /// For L bytes, round t, party j, each number x as bytes([x % 256, x //
-    /// 256]): sh(sh(bytes([2]) + run(128, w) + run(160, 32) + t + j +
-    /// L).digest(d)).digest(L); the first and the last 8 bytes.
+    /// 256]): sh(sh(bytes([2]) + run(128, w)).digest(d) + run(160, 32) + t + j +
+    /// L).digest(L); the first and the last 8 bytes.
     #[test]
     fn tapes_follow_from_seed_salt_round_party_and_length() {
         let expected = [
-            (0, 0, 0, "83e7dd0eaebf7fb9", "9715de6b253b763a"),
-            (0, 5, 1, "82f4f3a9c7e6915c", "d252a14543b3d215"),
-            (0, 218, 2, "4a01b9378c339ad3", "d45a76f63b833cce"),
-            (1, 0, 0, "972c9c1f231f2987", "5650de0cbba610a8"),
-            (1, 5, 1, "2271b5a19b0e460b", "436ca026a61f34c9"),
-            (1, 328, 2, "f77ba3f1bb56ce21", "57e3c7e2c1a4c36b"),
-            (2, 0, 0, "245d1c033be9870f", "52a2a2e09da886f5"),
-            (2, 5, 1, "50be51d24eaaeb2f", "ca9cf8ed4e455c41"),
-            (2, 437, 2, "e21cc8ebec063d93", "8e00e7cdeec0d598"),
+            (0, 0, 0, "4f666aa2690747f4", "b11f747c67d90c6b"),
+            (0, 5, 1, "8e3724aeb35f6efe", "88be393d92eef74e"),
+            (0, 218, 2, "d5ce0a8c79ad6084", "14a54d7fdc648840"),
+            (1, 0, 0, "ea9af99679976f3e", "8c1518ee1372907d"),
+            (1, 5, 1, "f5ea554f16563314", "1405e56a41157258"),
+            (1, 328, 2, "6ba98fd74555c00a", "f00d5da68c6128ff"),
+            (2, 0, 0, "9a59349532a2bd90", "a96323d8414ac8eb"),
+            (2, 5, 1, "29973a8bd99fd38b", "1194315f021e26ab"),
+            (2, 437, 2, "dd61e34589e2f191", "9027c0a6c852af67"),
         ];
         for (level, round, party, start, end) in expected {
             let set = &SETS[level];

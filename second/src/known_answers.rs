@@ -6,8 +6,10 @@
 
 use std::collections::BTreeMap;
 
+use crate::answers::Refusal;
 use crate::hashing::derived_seeds;
 use crate::hex::{from_hex, to_hex};
+use crate::lowmc::Tables;
 use crate::noise::Noise;
 use crate::picnic::Statement;
 use crate::sets::{Set, HIGHEST_BLOCK_LIMIT, SETS};
@@ -143,15 +145,26 @@ impl Answer {
         derived_seeds(self.set, &self.secret, &self.public, &self.message)
     }
 
-    fn sign(&self) -> Result<Vec<u8>, crate::answers::Refusal> {
-        let statement = Statement {
+    /// The signature that this program makes of the message.
+    pub fn sign(&self) -> Result<Vec<u8>, Refusal> {
+        let tables = self.set.lowmc().tables();
+        self.statement(&tables).sign(&self.secret, &self.seeds())
+    }
+
+    /// Verifies the signature.
+    pub fn verify(&self) -> Result<(), Refusal> {
+        let tables = self.set.lowmc().tables();
+        self.statement(&tables).verify(&self.signature)
+    }
+
+    fn statement<'a>(&'a self, tables: &'a Tables) -> Statement<'a> {
+        Statement {
             set: self.set,
-            tables: &self.set.lowmc().tables(),
+            tables,
             public: &self.public,
             message: &self.message,
             limit: HIGHEST_BLOCK_LIMIT as u64,
-        };
-        statement.sign(&self.secret, &self.seeds())
+        }
     }
 }
 
@@ -162,14 +175,15 @@ mod tests {
 
     /// Short hashes of two signatures of each set. The expected ones were
     /// computed once by a plain transcription of sections 6.2 and 6.4 of 001,
-    /// with the rules of 01, into Python over hashlib, which took the keys and
-    /// messages from here.
+    /// with the rules of 01 as 02 mends them, into Python over hashlib, which
+    /// took the keys and messages from here. It signs as the partner's program
+    /// does, in every answer of ../vectors/partner.
     #[test]
     fn own_answers_are_those_of_a_transcription_in_python() {
         let expected = [
-            "07cd1868f7bb3dfe 7ac8d90d0251ecc7",
-            "eac8e66f99c66f21 47a2d14872f15fc3",
-            "82b66db087e10245 39ce540f1aee8422",
+            "b552bc27bfc9ed59 a1e7ae319babdc8d",
+            "3a56adcb839d38af 8ad3a830da142b62",
+            "14a102d76a222298 8ee3a194c6064a49",
         ];
         for (set, expected) in SETS.iter().zip(expected) {
             let answers = own(set, 2);
@@ -179,6 +193,19 @@ mod tests {
                 .collect();
             assert_eq!(marks.join(" "), expected, "{}", set.name);
         }
+    }
+
+    /// The published files have upper-case letters in their hex.
+    #[test]
+    fn upper_case_is_read_too() {
+        let answers = own(&SETS[0], 1);
+        let line = |line: &str| match line.split_once(" = ") {
+            Some((name, value)) => format!("{name} = {}\n", value.to_uppercase()),
+            None => format!("{line}\n"),
+        };
+        let upper: String = write(&answers).lines().map(line).collect();
+        assert!(upper.contains("A") && upper != write(&answers));
+        assert_eq!(read(&upper), Ok(answers));
     }
 
     #[test]

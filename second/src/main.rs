@@ -15,6 +15,7 @@ use second::sets::{
     Set, HIGHEST_BLOCK_LIMIT, LONGEST_HASH_OUTPUT, LONGEST_MESSAGE, SALT_BYTES, SETS,
 };
 use second::shake::{shake, Hash, Sponge};
+use second::signed;
 
 const HELP: &str = "\
 second help
@@ -34,6 +35,11 @@ second answers SET COUNT
     signatures in the form in which Picnic's known answers are published
 second published
     read known answers of that form and print them as calls
+second signed
+    read known signatures by their digests, a line each: set, secret key, C,
+    p, message, length of the signature, its SHA-256; sign each message with
+    derived seeds and print all in the form of known answers, if every
+    signature is as its line says
 second shake {128|256} OUTLEN
     hash standard input and print OUTLEN bytes of output in hex
 second tables N S R
@@ -84,6 +90,7 @@ fn run(arguments: &[String], input: &mut dyn Read, output: &mut dyn Write) -> Re
         ["calls", "fuzz", seed, count] => run_fuzz(seed, count, output),
         ["answers", set, count] => run_answers(set, count, output),
         ["published"] => run_published(input, output),
+        ["signed"] => run_signed(input, output),
         ["shake", which, length] => run_shake(which, length, input, output),
         ["tables", n, s, r] => run_tables(n, s, r, output),
         ["lend", set] => run_lend(set, output),
@@ -151,9 +158,13 @@ fn run_answers(set: &str, count: &str, output: &mut dyn Write) -> Result<(), Ref
 }
 
 fn run_published(input: &mut dyn Read, output: &mut dyn Write) -> Result<(), Refusal> {
-    let text = String::from_utf8(all(input)?).map_err(|_| "standard input is no text")?;
-    let sheet = calls::published::sheet(&known_answers::read(&text)?);
+    let sheet = calls::published::sheet(&known_answers::read(&text(input)?)?);
     print(output, &sheet.to_string())
+}
+
+fn run_signed(input: &mut dyn Read, output: &mut dyn Write) -> Result<(), Refusal> {
+    let answers = signed::answers(&text(input)?)?;
+    print(output, &known_answers::write(&answers))
 }
 
 fn run_shake(
@@ -268,6 +279,11 @@ fn all(input: &mut dyn Read) -> Result<Vec<u8>, Refusal> {
         Ok(_) => Ok(bytes),
         Err(error) => Err(format!("standard input: {error}")),
     }
+}
+
+/// All of standard input, which must be text.
+fn text(input: &mut dyn Read) -> Result<String, Refusal> {
+    String::from_utf8(all(input)?).map_err(|_| "standard input is no text".into())
 }
 
 fn print(output: &mut dyn Write, text: &str) -> Result<(), Refusal> {

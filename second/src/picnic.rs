@@ -1,4 +1,5 @@
-//! Signing and verifying, as 001 has them in sections 6.2 and 6.3.
+//! Signing and verifying, as 001 has them in sections 6.2 and 6.3 and 02 mends
+//! them.
 
 use std::array::from_fn;
 
@@ -129,14 +130,16 @@ impl Statement<'_> {
         }
     }
 
-    /// The challenge of all rounds: output shares, commitments, salt, public
-    /// key and message are hashed.
+    /// The challenge of all rounds: output shares, commitments, public key,
+    /// salt and message are hashed. 01 has the salt before the public key. By
+    /// 02 known answers decide such a point, and those of the partner's program
+    /// have it behind.
     fn challenge(&self, shown: &[Shown], salt: &[u8]) -> Option<Vec<u8>> {
         let outputs = shown.iter().flat_map(|round| &round.outputs);
         let commitments = shown.iter().flat_map(|round| &round.commitments);
         let mut input: Vec<u8> = outputs.chain(commitments).flatten().copied().collect();
-        input.extend(salt);
         input.extend(self.public);
+        input.extend(salt);
         input.extend(self.message);
         challenge(self.set, &input, self.limit)
     }

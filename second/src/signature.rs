@@ -73,17 +73,18 @@ impl Cursor<'_> {
     }
 }
 
-/// Two bits for each value, the high bit first, and zero bits to the byte.
+/// Two bits for each value, the low bit first, and zero bits to the byte. The
+/// pairs of a challenge's blocks have the other order.
 pub fn header(values: &[u8]) -> Vec<u8> {
     let bits = values
         .iter()
-        .flat_map(|value| [value & 2 != 0, value & 1 != 0]);
+        .flat_map(|value| [value & 1 != 0, value & 2 != 0]);
     to_bytes(&bits.collect::<Vec<bool>>())
 }
 
 /// The values of a header; none if a pair is 11 or the padding is not zero.
 fn header_values(set: &Set, bytes: &[u8]) -> Option<Vec<u8>> {
-    let pair = |k| 2 * u8::from(bit(bytes, 2 * k)) + u8::from(bit(bytes, 2 * k + 1));
+    let pair = |k| u8::from(bit(bytes, 2 * k)) + 2 * u8::from(bit(bytes, 2 * k + 1));
     let values: Vec<u8> = (0..set.t).map(pair).collect();
     let fine = values.iter().all(|&value| value < 3) && header(&values) == bytes;
     fine.then_some(values)
@@ -169,11 +170,11 @@ mod tests {
     use crate::noise::Noise;
     use crate::sets::SETS;
 
-    /// P12 of 01.
+    /// P12 of 01, as 02 mends it, and a value that starts a byte.
     #[test]
     fn header_of_four_values() {
-        assert_eq!(header(&[0, 1, 2, 0]), [0x18]);
-        assert_eq!(header(&[2, 2, 2, 2, 1]), [0xaa, 0x40]);
+        assert_eq!(header(&[0, 1, 2, 0]), [0x24]);
+        assert_eq!(header(&[2, 2, 2, 2, 1]), [0x55, 0x80]);
     }
 
     fn refused(set: &Set, bytes: &[u8]) -> Option<Refusal> {
@@ -197,6 +198,25 @@ mod tests {
             let mut bytes = vec![0; 30_544];
             bytes[54] = last;
             assert_eq!(refused(set, &bytes), expected, "{last:02x}");
+        }
+    }
+
+    /// Headers of set 1 that start with a byte, and the values that they
+    /// start with. The first byte is P12's.
+    #[test]
+    fn values_of_a_byte() {
+        let set = &SETS[0];
+        for (byte, values, shares) in [
+            (0x24, [0, 1, 2, 0], 2),
+            (0x80, [1, 0, 0, 0], 1),
+            (0x40, [2, 0, 0, 0], 1),
+            (0x01, [0, 0, 0, 2], 1),
+        ] {
+            let mut bytes = vec![0; 30_528 + 16 * shares];
+            bytes[0] = byte;
+            let read = Signature::read(set, &bytes).expect("it has its form");
+            assert_eq!(read.values[..4], values, "{byte:02x}");
+            assert_eq!(read.values[4..], [0; 215], "{byte:02x}");
         }
     }
 

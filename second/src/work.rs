@@ -41,8 +41,8 @@ fn digest(set: &Set, input: usize) -> usize {
 
 fn tape(set: &Set, party: usize) -> usize {
     let integers = 3 * 2;
-    digest(set, set.seed_width() + SALT_BYTES + integers)
-        + hash(set, set.digest_bytes, tape_bytes(set, party))
+    let input = set.digest_bytes + SALT_BYTES + integers;
+    digest(set, set.seed_width()) + hash(set, input, tape_bytes(set, party))
 }
 
 fn commitment(set: &Set) -> usize {
@@ -69,7 +69,7 @@ impl Task<'_> {
         let shown = set.t * 3 * (set.width() + set.digest_bytes);
         let first = digest(
             set,
-            shown + SALT_BYTES + set.public_key_bytes() + self.message,
+            shown + set.public_key_bytes() + SALT_BYTES + self.message,
         );
         first + (self.blocks - 1) * digest(set, set.digest_bytes)
     }

@@ -1,6 +1,8 @@
 //! The program as it is run: its answers, and what it refuses.
 
+use std::fs;
 use std::io::Write;
+use std::path::Path;
 use std::process::{Command, Output, Stdio};
 
 fn run(arguments: &[&str], input: &[u8]) -> Output {
@@ -108,6 +110,74 @@ fn known_answers_become_calls() {
     assert_eq!(output.status.code(), Some(1));
 }
 
+/// What stands in a file of the partner's answers.
+fn partner(file: &str) -> String {
+    let path = Path::new(env!("CARGO_MANIFEST_DIR"))
+        .join("../vectors/partner")
+        .join(file);
+    fs::read_to_string(&path).unwrap_or_else(|error| panic!("{}: {error}", path.display()))
+}
+
+/// The first line of the partner's digests is of the answer that is there in
+/// full. It comes out in the form of the published files, and goes in as calls.
+#[test]
+fn signatures_known_by_their_digests_become_known_answers() {
+    let digests = partner("digests.txt");
+    let lines: Vec<&str> = digests.lines().take(2).collect();
+    let output = run(&["signed"], lines.join("\n").as_bytes());
+    assert!(output.status.success());
+    let text = String::from_utf8_lossy(&output.stdout).into_owned();
+    let full = second::known_answers::read(&partner("picnic-L1-FS.rsp"));
+    assert_eq!(full.as_ref().map(Vec::len), Ok(1));
+    assert_eq!(second::known_answers::read(&text), full);
+    let names = ["count", "seed", "mlen", "msg", "pk", "sk", "smlen", "sm"];
+    let found = text.lines().filter_map(|line| line.split_once(" = "));
+    assert!(found.map(|(name, _)| name).eq(names));
+    let calls = run(&["published"], &output.stdout);
+    let calls = String::from_utf8_lossy(&calls.stdout).into_owned();
+    assert!(calls.contains("\ncall verify-known-set1-0 picnic_verify\n"));
+}
+
+/// Nothing is printed but what is wrong with which line, though the line
+/// before it is right.
+#[test]
+fn signatures_with_other_digests_are_refused() {
+    let digests = partner("digests.txt");
+    let good = digests.lines().nth(1).expect("there is a line");
+    let last = good.len() - 1;
+    let digit = if good.ends_with('0') { "1" } else { "0" };
+    for (bad, what) in [
+        (
+            format!("{}{digit}", &good[..last]),
+            "the signature's SHA-256",
+        ),
+        (good.replacen("1 ", "4 ", 1), "there is no set 4"),
+        (
+            good.replace(" 32720 ", " 32736 "),
+            "the signature has 32720 bytes",
+        ),
+        (
+            good.replace(" c16f", " c16e"),
+            "C is not the encryption of p",
+        ),
+        (
+            good[..last].into(),
+            "the digest: 32 bytes in hex are wanted",
+        ),
+        ("1".into(), "1 fields, not seven"),
+    ] {
+        assert_ne!(bad, good, "{what}");
+        let output = run(&["signed"], format!("{good}\n{bad}\n").as_bytes());
+        let error = String::from_utf8_lossy(&output.stderr).into_owned();
+        assert_eq!(output.status.code(), Some(1), "{what}");
+        assert!(output.stdout.is_empty(), "{what}");
+        let start = format!("second: line 2: {what}");
+        assert!(error.starts_with(&start), "{error}");
+    }
+    let output = run(&["signed"], &[0xff]);
+    assert_eq!(output.status.code(), Some(1), "what is no text");
+}
+
 /// All tables in one run of bytes, in the order in which a host lends them.
 #[test]
 fn lend_writes_the_tables() {
@@ -171,6 +241,7 @@ fn help_names_every_subcommand() {
         "calls",
         "answers",
         "published",
+        "signed",
         "shake",
         "tables",
         "lend",
@@ -185,9 +256,10 @@ fn help_names_every_subcommand() {
 #[test]
 fn what_is_not_understood_is_refused() {
     let key = "80000000000000000000000000000000";
-    let refused: [&[&str]; 17] = [
+    let refused: [&[&str]; 18] = [
         &[],
         &["sign"],
+        &["signed", "1"],
         &["calls"],
         &["calls", "picnic_hash"],
         &["shake", "128"],

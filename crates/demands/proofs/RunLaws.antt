@@ -1,5 +1,5 @@
 -- Two unpacked forms from which one input of the challenge is recomputed: salt, output shares and commitments are the same.
-use mathlib.Core.Path.{_≡_, sym, _∙_}
+use mathlib.Core.Path.{_≡_, refl, sym, _∙_}
 use mathlib.Core.List.{_++_}
 use Prim.Native.Nat.{ℕ, _+_, _<_}
 use native.Mathlib.Omega.{arith}
@@ -75,9 +75,10 @@ module _ {p : Set} (q : IsSet p) (C : Cipher) (public message x y : Bytes) (hx :
   pub salts-same : saltIn p x ≡ saltIn p y
   unfolding challengeInput
   salts-same =
-      front (saltIn p x) (saltIn p y) (public ++ message) (public ++ message)
+      front (saltIn p x) (saltIn p y) message message
       (length-salt p x hx ∙ sym (length-salt p y hy))
-      (back (verifierFilling p C public x) (verifierFilling p C public y) _ _ fillings-alike e)
+      (back public public _ _ refl
+      (back (verifierFilling p C public x) (verifierFilling p C public y) _ _ fillings-alike e))
 
   -- and so is each output share
   pub outputs-same : (i : ℕ) → i < p .t → (j : Party) → outs x i j ≡ outs y i j

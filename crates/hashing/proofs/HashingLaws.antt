@@ -48,15 +48,15 @@ le16-bytes v h = let e : v / 256 ≡ v / 256 % 256 = omega arith in ap (λ (b : 
 regrouped : (a b c d e f : Bytes) → ((((a ++ b) ++ c) ++ d) ++ e) ++ f ≡ a ++ (b ++ (c ++ (d ++ (e ++ f))))
 regrouped a b c d e f = simp append-assoc
 
--- what a tape's digest is fed, piece by piece
-pub fed-tape : (r : ℕ) (seed salt : Bytes) (t j n : ℕ) → t < 65536 → j < 65536 → n < 65536
-    → absorbed (started r) (((((2 ∷ [] ++ seed) ++ salt) ++ (t % 256 ∷ t / 256 ∷ [])) ++ (j % 256 ∷ j / 256 ∷ [])) ++ (n % 256 ∷ n / 256 ∷ []))
-    ≡ absorbed (started r) (2 ∷ tapeInput seed salt t j n)
+-- what a tape is fed, piece by piece
+pub fed-tape : (r : ℕ) (digest salt : Bytes) (t j n : ℕ) → t < 65536 → j < 65536 → n < 65536
+    → absorbed (started r) ((((digest ++ salt) ++ (t % 256 ∷ t / 256 ∷ [])) ++ (j % 256 ∷ j / 256 ∷ [])) ++ (n % 256 ∷ n / 256 ∷ []))
+    ≡ absorbed (started r) (tapeInput digest salt t j n)
 unfolding tapeInput
-fed-tape r seed salt t j n ht hj hn =
+fed-tape r digest salt t j n ht hj hn =
     ap (absorbed (started r))
-    (regrouped (2 ∷ []) seed salt (t % 256 ∷ t / 256 ∷ []) (j % 256 ∷ j / 256 ∷ []) (n % 256 ∷ n / 256 ∷ [])
-    ∙ (λ q. 2 ∷ (seed ++ (salt ++ (le16-bytes t ht q ++ (le16-bytes j hj q ++ le16-bytes n hn q))))))
+    (regrouped [] digest salt (t % 256 ∷ t / 256 ∷ []) (j % 256 ∷ j / 256 ∷ []) (n % 256 ∷ n / 256 ∷ [])
+    ∙ (λ q. digest ++ (salt ++ (le16-bytes t ht q ++ (le16-bytes j hj q ++ le16-bytes n hn q)))))
 
 -- what the digest of a view is fed, piece by piece
 pub fed-view : (r : ℕ) (d share transcript result : Bytes)

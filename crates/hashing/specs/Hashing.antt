@@ -1,4 +1,4 @@
--- What Picnic hashes, over the SHAKE of a set: 01's section "Hashing".
+-- What Picnic hashes, over the SHAKE of a set: 01's section "Hashing", with the tape as 02 mends it (M-101).
 use mathlib.Core.List.{[], _∷_, _++_}
 use Prim.Native.Nat.{ℕ, _/_, _%_}
 use Rattle.slices.specs.Slices.{Bytes}
@@ -22,13 +22,13 @@ le16 v = v % 256 ∷ v / 256 % 256 ∷ []
 unfoldable pub derivedSeeds : Set → (secret message public : Bytes) → Bytes
 derivedSeeds p secret message public = kdf p (secret ++ (message ++ (public ++ le16 (p .seed)))) (seedsLength p)
 
--- what a tape's digest is of: seed, salt, t, j and the length in bytes
-unfoldable pub tapeInput : (seed salt : Bytes) (t j length : ℕ) → Bytes
-tapeInput seed salt t j length = seed ++ (salt ++ (le16 t ++ (le16 j ++ le16 length)))
+-- what a tape is drawn from: the seed's digest, salt, t, j and the length in bytes
+unfoldable pub tapeInput : (digest salt : Bytes) (t j length : ℕ) → Bytes
+tapeInput digest salt t j length = digest ++ (salt ++ (le16 t ++ (le16 j ++ le16 length)))
 
--- tape of party j in round t: KDF(H_2(seed, salt, t, j, length))
+-- tape of party j in round t: KDF(H_2(seed), salt, t, j, length)
 unfoldable pub tape : Set → (seed salt : Bytes) (t j length : ℕ) → Bytes
-tape p seed salt t j length = kdf p (h p 2 (tapeInput seed salt t j length)) length
+tape p seed salt t j length = kdf p (tapeInput (h p 2 seed) salt t j length) length
 
 -- what a commitment hashes: H_4(seed), input share, transcript, output share
 unfoldable pub view : Set → (seed share transcript output : Bytes) → Bytes

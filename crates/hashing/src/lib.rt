@@ -42,13 +42,17 @@ pub fn digest(p: Set, i: u8, input: &[u8], output: &mut [u8])
     s.squeeze(output);
 }
 
-// The digest that a tape is made from fills output.
-fn tape_digest(p: Set, seed: &[u8], salt: &[u8], t: u16, j: u16, n: u16, output: &mut [u8])
-    requires { ⌜ IsSet p × (length (now output) ≡ p .digest) ⌝ }
-    ensures { λ _. ⌜ now (output .exit) ≡ h p 2 (tapeInput (now (seed .entry)) (now (salt .entry)) t j n) ⌝ }
+// The tape of party j in round t fills output: d is H_2 of the seed.
+fn tape_from(p: Set, d: &[u8], salt: &[u8], t: u16, j: u16, output: &mut [u8])
+    requires { ⌜ IsSet p × (length (now output) < 65536) ⌝ }
+    ensures { λ _. ⌜
+        now (output .exit)
+        ≡ kdf p (tapeInput (now (d .entry)) (now (salt .entry)) t j (length (now (output .entry)))) (length (now (output .entry)))
+        ⌝ }
 {
-    let s = prefixed(p, 2).absorb(seed).absorb(salt);
-    let u = s.absorb_u16(t).absorb_u16(j).absorb_u16(n).pad();
+    let size = output.len() as u16;
+    let s = Sponge::new(p.rate).absorb(d).absorb(salt);
+    let u = s.absorb_u16(t).absorb_u16(j).absorb_u16(size).pad();
     u.squeeze(output);
 }
 
@@ -58,10 +62,9 @@ pub fn tape(p: Set, seed: &[u8], salt: &[u8], t: u16, j: u16, output: &mut [u8])
     ensures { λ _. ⌜ now (output .exit) ≡ tape p (now (seed .entry)) (now (salt .entry)) t j (length (now (output .entry))) ⌝ }
 {
     let n = p.digest;
-    let size = output.len() as u16;
     let mut d = [0u8; 64];
-    tape_digest(p, seed, salt, t, j, size, &mut d[..n]);
-    fill(p, &d[..n], output);
+    digest(p, 2, seed, &mut d[..n]);
+    tape_from(p, &d[..n], salt, t, j, output);
 }
 
 // The digest of a view fills output: d is H_4 of the seed.

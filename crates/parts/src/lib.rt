@@ -1,8 +1,8 @@
 // The parts of a signature in place: values, lengths, padding, where each round's parts stand, and writing a round's parts.
 ghost use mathlib.Core.Path.{_≡_};
 ghost use mathlib.Core.List.{_++_};
-ghost use Prim.Native.Nat.{_+_, _*_, _≤_, _<_};
-ghost use lib.ListN.{length, getD, drop};
+ghost use Prim.Native.Nat.{_+_, _*_, _/_, _%_, _≤_, _<_};
+ghost use lib.ListN.{length, drop};
 ghost use Rattle.slices.specs.Slices.{put, over};
 ghost use Rattle.bits.specs.Bits.{from};
 ghost use Rattle.bits.specs.Bytes.{value, width};
@@ -41,12 +41,19 @@ pub struct Here {
     pub next: Cursor,
 }
 
-// The value at place k of a header: the pair's high bit is the value's.
+// The two bits of a pair exchanged: of a value a header has the low bit first, and a number the high bit.
+fn exchanged(v: u8) -> u8
+    ensures { λ r. ⌜ r ≡ 2 * (v % 2) + v / 2 ⌝ }
+{
+    2 * (v % 2) + v / 2
+}
+
+// The value at place k of a header: the pair's first bit is the value's low bit.
 pub fn value(s: &[u8], k: usize) -> u8
     requires { ⌜ k < 4 * length (now s) ⌝ }
     ensures { λ r. ⌜ r ≡ valueAt (now (s .entry)) k ⌝ }
 {
-    (s[k / 4] >> (6 - 2 * (k % 4))) % 4
+    exchanged((s[k / 4] >> (6 - 2 * (k % 4))) % 4)
 }
 
 // No pair is 11.
@@ -210,26 +217,24 @@ pub fn locate(p: Set, s: &[u8], c: Cursor) -> Here
     }
 }
 
-// The value at place k, and 0 behind the last.
-fn value_or_zero(values: &[u8], k: usize) -> u8
-    ensures { λ v. ⌜ v ≡ getD (now (values .entry)) k 0 ⌝ }
+// The pair of the value at place k, and 00 behind the last.
+fn pair(values: &[u8], k: usize) -> u8
+    requires { ⌜ AreValues (now values) ⌝ }
+    ensures { λ r. ⌜ r ≡ value 2 (from (2 * k) (pairBits (now (values .entry)))) ⌝ }
 {
     if k < values.len() {
-        return values[k];
+        return exchanged(values[k]);
     }
     0
 }
 
-// Byte i of a header: four values, the first in the high bits.
+// Byte i of a header: the pairs of four values, the first in the high bits.
 fn header_byte(values: &[u8], i: usize) -> u8
     requires { ⌜ (i ≤ 65536) × AreValues (now values) ⌝ }
     ensures { λ b. ⌜ b ≡ value 8 (from (8 * i) (pairBits (now (values .entry)))) ⌝ }
 {
     let k = 4 * i;
-    value_or_zero(values, k) * 64
-        + value_or_zero(values, k + 1) * 16
-        + value_or_zero(values, k + 2) * 4
-        + value_or_zero(values, k + 3)
+    pair(values, k) * 64 + pair(values, k + 1) * 16 + pair(values, k + 2) * 4 + pair(values, k + 3)
 }
 
 // The header of T values, at the start of an output.

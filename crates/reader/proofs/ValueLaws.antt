@@ -1,5 +1,5 @@
 -- A value of a header, read as two bits one after the other.
-use mathlib.Core.Path.{_≡_, ap, _∙_}
+use mathlib.Core.Path.{_≡_, ap, ap₂, _∙_}
 use mathlib.Core.Bool.{Bool, true, false, cond}
 use Prim.Native.Nat.{ℕ, _+_, _*_, _/_, _<_}
 use native.Mathlib.Omega.{arith}
@@ -26,11 +26,12 @@ behind : (s : Bytes) (at : ℕ) → at < 8 * length s → afterBit s at ≡ at +
 behind s at h = ap (λ (b : Bool). cond b (at + 1) at) (lt-ltb (at / 8) (length s) (omega (arith, h)))
 
 -- two bits, from twice the place on
-pub two-bits : (s : Bytes) (k : ℕ) → k < 4 * length s → 2 * digitOf (nextBit s (2 * k)) + digitOf (nextBit s (afterBit s (2 * k))) ≡ valueAt s k
+pub two-bits : (s : Bytes) (k : ℕ) → k < 4 * length s → digitOf (nextBit s (2 * k)) + 2 * digitOf (nextBit s (afterBit s (2 * k))) ≡ valueAt s k
 unfolding valueAt place
 two-bits s k h =
-    ap (λ (b : Next). 2 * digitOf b + digitOf (nextBit s (afterBit s (2 * k)))) (there s (2 * k) (omega (arith, h)) ∙ ap (λ (i : ℕ). Bit (bitsOf s i)) e₀)
-    ∙ ap (λ (b : Next). 2 * digit (bitsOf s (2 * k + 0)) + digitOf b) (ap (nextBit s) (behind s (2 * k) (omega (arith, h))) ∙ there s (2 * k + 1) (omega (arith, h)))
+    ap₂ (λ (a b : Next). digitOf a + 2 * digitOf b) (there s (2 * k) (omega (arith, h)) ∙ ap (λ (i : ℕ). Bit (bitsOf s i)) e₀)
+    (ap (nextBit s) (behind s (2 * k) (omega (arith, h))) ∙ there s (2 * k + 1) (omega (arith, h)))
+    ∙ omega arith
   where
     e₀ : 2 * k ≡ 2 * k + 0
     e₀ = omega arith

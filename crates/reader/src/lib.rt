@@ -92,11 +92,11 @@ fn digit(b: Next) -> u8
     }
 }
 
-// The number of two bits, the high bit first.
-fn pair(high: Next, low: Next) -> u8
-    ensures { λ r. ⌜ r ≡ 2 * digitOf high + digitOf low ⌝ }
+// The number of two bits, the low bit first.
+fn pair(low: Next, high: Next) -> u8
+    ensures { λ r. ⌜ r ≡ digitOf low + 2 * digitOf high ⌝ }
 {
-    2 * digit(high) + digit(low)
+    digit(low) + 2 * digit(high)
 }
 
 impl<'a> Reader<'a> {
@@ -147,7 +147,7 @@ pub fn value(signature: &[u8], k: usize) -> u8
         signature,
         bit: 2 * k,
     };
-    let high = reader.next_bit();
     let low = reader.next_bit();
-    pair(high, low)
+    let high = reader.next_bit();
+    pair(low, high)
 }

@@ -158,7 +158,7 @@ outputs-put {p} h t e m room a b c x y z q ea eb ec g =
 
 -- what its first block is fed, piece by piece
 pub fed-input : (r : ℕ) (filled salt public message : Bytes)
-    → absorbed (started r) ((((1 ∷ [] ++ filled) ++ salt) ++ public) ++ message) ≡ absorbed (started r) (1 ∷ challengeInput filled salt public message)
+    → absorbed (started r) ((((1 ∷ [] ++ filled) ++ public) ++ salt) ++ message) ≡ absorbed (started r) (1 ∷ challengeInput filled salt public message)
 unfolding challengeInput
 fed-input r filled salt public message = ap (absorbed (started r)) (simp append-assoc)
 

@@ -160,7 +160,7 @@ pub fn challenge(
         (now (out .entry)) r (now (out .exit))
         ⌝ }
 {
-    let s = hashing::prefixed(p, 1).absorb(filled).absorb(salt);
-    let u = s.absorb(public).absorb(message);
+    let s = hashing::prefixed(p, 1).absorb(filled).absorb(public);
+    let u = s.absorb(salt).absorb(message);
     challenge::fill(p, challenge::first_block(p, u), limit, out)
 }

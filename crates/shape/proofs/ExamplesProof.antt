@@ -23,7 +23,7 @@ use Rattle.shape.proofs.RoundsLaws.{sizes-other, rounds-append}
 
 pub p12 : P12
 unfolding P12 headerOf bytesOf bytes joined upTo pairBits place bit odd value width
-p12 p q vs = each (λ (p : Set). take 1 (headerOf p (0 ∷ 1 ∷ 2 ∷ 0 ∷ vs)) ≡ 0x18 ∷ []) refl refl refl q
+p12 p q vs = each (λ (p : Set). take 1 (headerOf p (0 ∷ 1 ∷ 2 ∷ 0 ∷ vs)) ≡ 0x24 ∷ []) refl refl refl q
 
 pub last-header-byte : LastHeaderByte
 unfolding LastHeaderByte odd bit bitsOf value width joined all padded place valueAt values headerWrong readChecks reading first unless

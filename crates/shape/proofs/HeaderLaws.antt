@@ -60,6 +60,14 @@ two-of-value (suc (suc zero)) h = refl
 two-of-value (suc (suc (suc zero))) h = refl
 two-of-value (suc (suc (suc (suc v)))) h = absurd (omega arith)
 
+exchanged-two : (v : ℕ) → v < 4 → 2 * digit (bit v 0) + digit (bit v 1) ≡ 2 * (v % 2) + v / 2
+unfolding bit odd
+exchanged-two zero h = refl
+exchanged-two (suc zero) h = refl
+exchanged-two (suc (suc zero)) h = refl
+exchanged-two (suc (suc (suc zero))) h = refl
+exchanged-two (suc (suc (suc (suc v)))) h = absurd (omega arith)
+
 -- ---- the values of a header
 
 -- numbers one after the other
@@ -149,24 +157,28 @@ module _ (p : Set) (vs : List ℕ) (rest : Bytes) where
       padded-front (2 * p .t) (headerOf p vs) rest (length-header p vs)
       ∙ packed-padded (2 * p .t) (headerOf p vs) (packed (2 * p .t) (pairBits vs))
 
--- ---- as code goes: by bytes
+-- ---- as code goes: by bytes, whose pairs are numbers with the bits exchanged
+
+exchanged-pair : (x a b : ℕ) → b < 2 → x ≡ 2 * a + b → 2 * (x % 2) + x / 2 ≡ 2 * b + a
+exchanged-pair x a b h e = omega arith
 
 -- a value from the byte that holds it
-pub value-in-byte : (s : Bytes) (k : ℕ) → getD s (k / 4) 0 / 2 ^ (6 - 2 * (k % 4)) % 4 ≡ valueAt s k
+pub value-in-byte : (s : Bytes) (k : ℕ) (x : ℕ) → x ≡ getD s (k / 4) 0 / 2 ^ (6 - 2 * (k % 4)) % 4 → 2 * (x % 2) + x / 2 ≡ valueAt s k
 unfolding valueAt place bit
-value-in-byte s k =
+value-in-byte s k x e =
     let v = getD s (k / 4) 0 in
     let j = 2 * (k % 4) in
-    let lo : bitsOf s (2 * k + 1) ≡ bit v (6 - j) =
-    ap (bitsOf s) (omega arith) ∙ (at-bit s (k / 4) (j + 1) (omega arith) ∙ ap (bit v) (omega arith)) in
-    let hi : bitsOf s (2 * k + 0) ≡ bit v (6 - j + 1) =
+    let first : bitsOf s (2 * k + 0) ≡ bit v (6 - j + 1) =
     ap (bitsOf s) (omega arith) ∙ (at-bit s (k / 4) j (omega arith) ∙ ap (bit v) (omega arith)) in
-    let two : v / 2 ^ (6 - j) / 2 ≡ v / 2 ^ (6 - j + 1) = shr-shr v (6 - j) 1 in
-    let x : ℕ = v / 2 ^ (6 - j) in
-    let y : ℕ = v / 2 ^ (6 - j + 1) in
-    let four : x % 4 ≡ 2 * (x / 2 % 2) + x % 2 = omega arith in
-    four ∙ (ap₂ (λ (a b : ℕ). 2 * (a % 2) + b) two (digit-odd x)
-    ∙ (ap (λ (a : ℕ). 2 * a + digit (odd x)) (digit-odd y) ∙ sym (ap₂ (λ (a b : Bool). 2 * digit a + digit b) hi lo)))
+    let second : bitsOf s (2 * k + 1) ≡ bit v (6 - j) =
+    ap (bitsOf s) (omega arith) ∙ (at-bit s (k / 4) (j + 1) (omega arith) ∙ ap (bit v) (omega arith)) in
+    let y : ℕ = v / 2 ^ (6 - j) in
+    let z : ℕ = v / 2 ^ (6 - j + 1) in
+    let two : y / 2 ≡ z = shr-shr v (6 - j) 1 in
+    let four : y % 4 ≡ 2 * (y / 2 % 2) + y % 2 = omega arith in
+    exchanged-pair x (y / 2 % 2) (y % 2) (omega arith) (e ∙ four)
+    ∙ (ap₂ (λ (a b : ℕ). 2 * a + b % 2) (digit-odd y) two
+    ∙ (ap (λ (a : ℕ). 2 * digit (odd y) + a) (digit-odd z) ∙ sym (ap₂ (λ (a b : Bool). 2 * digit a + digit b) second first)))
 
 -- past the last value there are no bits
 pub pairs-end : (vs : List ℕ) → upTo (2 * length vs) (pairBits vs) ≡ pairBits vs
@@ -181,24 +193,26 @@ pairs-end vs = λ q i. at i q
         ∙ sym (ap (λ (v : ℕ). bit v (place (i % 2))) (List·getD-eq-default vs 0 (omega arith)) ∙ bit-zero (place (i % 2))))
         (below i (2 * length vs))
 
--- two bits of a header are a value
-pair-value : (vs : List ℕ) (k : ℕ) → getD vs k 0 < 4 → value 2 (from (2 * k) (pairBits vs)) ≡ getD vs k 0
+-- the pair of a value
+pub pair-value : (vs : List ℕ) (k : ℕ) → getD vs k 0 < 4 → 2 * (getD vs k 0 % 2) + getD vs k 0 / 2 ≡ value 2 (from (2 * k) (pairBits vs))
 unfolding value pairBits place
 pair-value vs k h =
-    ap₂ (λ (a b : Bool). (0 * 2 + digit a) * 2 + digit b) (there 0 (omega arith)) (there 1 (omega arith))
-    ∙ (omega arith ∙ two-of-value (getD vs k 0) h)
+    sym
+    (ap₂ (λ (a b : Bool). (0 * 2 + digit a) * 2 + digit b) (there 0 (omega arith)) (there 1 (omega arith))
+    ∙ (omega arith ∙ exchanged-two (getD vs k 0) h))
   where
-    there : (b : ℕ) → b < 2 → pairBits vs (2 * k + b) ≡ bit (getD vs k 0) (place b)
+    there : (b : ℕ) → b < 2 → pairBits vs (2 * k + b) ≡ bit (getD vs k 0) b
     there b l =
         let d : (2 * k + b) / 2 ≡ k = omega arith in
         let m : (2 * k + b) % 2 ≡ b = omega arith in
-        ap₂ (λ (i j : ℕ). bit (getD vs i 0) (place j)) d m
+        ap₂ (λ (i j : ℕ). bit (getD vs i 0) j) d m
 
--- a byte of a header is made of four values
-pub header-byte : (vs : List ℕ) (i : ℕ) → ((k : ℕ) → getD vs k 0 < 4)
-    → getD vs (4 * i) 0 * 64 + getD vs (4 * i + 1) 0 * 16 + getD vs (4 * i + 2) 0 * 4 + getD vs (4 * i + 3) 0
-    ≡ value 8 (from (8 * i) (pairBits vs))
-header-byte vs i small =
+-- a byte is made of four pairs
+pub byte-of-pairs : (f : Bits) (i : ℕ)
+    → value 2 (from (2 * (4 * i)) f) * 64 + value 2 (from (2 * (4 * i + 1)) f) * 16 + value 2 (from (2 * (4 * i + 2)) f) * 4
+    + value 2 (from (2 * (4 * i + 3)) f)
+    ≡ value 8 (from (8 * i) f)
+byte-of-pairs f i =
     let x1 : Bits = from 2 x in
     let x2 : Bits = from 2 x1 in
     let x3 : Bits = from 2 x2 in
@@ -207,14 +221,14 @@ header-byte vs i small =
       value-add 2 6 x,
       value-add 2 4 x1,
       value-add 2 2 x2,
-      pair x (4 * i) (λ j. ap (pairBits vs) (omega arith)),
-      pair x1 (4 * i + 1) (λ j. ap (pairBits vs) (omega arith)),
-      pair x2 (4 * i + 2) (λ j. ap (pairBits vs) (omega arith)),
-      pair x3 (4 * i + 3) (λ j. ap (pairBits vs) (omega arith)),
+      same x (4 * i) (λ j. ap f (omega arith)),
+      same x1 (4 * i + 1) (λ j. ap f (omega arith)),
+      same x2 (4 * i + 2) (λ j. ap f (omega arith)),
+      same x3 (4 * i + 3) (λ j. ap f (omega arith)),
     )
   where
     x : Bits
-    x = from (8 * i) (pairBits vs)
+    x = from (8 * i) f
 
-    pair : (f : Bits) (k : ℕ) → ((j : ℕ) → f j ≡ pairBits vs (2 * k + j)) → value 2 f ≡ getD vs k 0
-    pair f k g = value-cong 2 f (from (2 * k) (pairBits vs)) (λ j l. g j) ∙ pair-value vs k (small k)
+    same : (g : Bits) (k : ℕ) → ((j : ℕ) → g j ≡ f (2 * k + j)) → value 2 g ≡ value 2 (from (2 * k) f)
+    same g k e = value-cong 2 g (from (2 * k) f) (λ j l. e j)

@@ -1,7 +1,7 @@
--- The header of a signature: 2T bits, high bit of each value first, zero bits to the byte.
+-- The header of a signature: 2T bits, low bit of each value first as 02 has it (M-101), zero bits to the byte.
 use mathlib.Core.Bool.{Bool}
 use mathlib.Core.List.{List, [], _∷_}
-use Prim.Native.Nat.{ℕ, _+_, _*_, _-_, _/_, _%_, _<_}
+use Prim.Native.Nat.{ℕ, _+_, _*_, _/_, _%_, _<_}
 use lib.Dec.{ltb}
 use lib.ListN.{getD}
 use Rattle.slices.specs.Slices.{Bytes, joined}
@@ -9,9 +9,9 @@ use Rattle.bits.specs.Bits.{Bits}
 use Rattle.bits.specs.Bytes.{bit, bitsOf, digit, bytesOf}
 use Rattle.sets.specs.declared.Set.{Set}
 
--- where bit b of a value stands in its pair, and which bit stands at place b: the high bit first
+-- where bit b of a value stands in its pair, and which bit stands at place b: the low bit first
 unfoldable pub place : ℕ → ℕ
-place b = 1 - b
+place b = b
 
 -- the bits of values, two each
 unfoldable pub pairBits : List ℕ → Bits

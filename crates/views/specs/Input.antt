@@ -1,4 +1,5 @@
--- The challenge's input: all output shares by round and party, then all commitments, salt, pk, M.
+-- The challenge's input: all output shares by round and party, then all commitments, pk, salt, M: the order that a partner's
+-- program decides (M-101; docs/DECISIONS.md), where 01 has salt, pk, M.
 use mathlib.Core.List.{_++_}
 use Prim.Native.Nat.{ℕ}
 use lib.ListN.{getD, take, drop}
@@ -27,9 +28,9 @@ byRound rounds f = joined rounds (λ t. three (f t))
 unfoldable pub filling : Set → (outputs commitments : ℕ → Party → Bytes) → Bytes
 filling p outputs commitments = byRound (p .t) outputs ++ byRound (p .t) commitments
 
--- then salt, pk, M
+-- then pk, salt, M
 unfoldable pub challengeInput : (filled salt public message : Bytes) → Bytes
-challengeInput filled salt public message = filled ++ (salt ++ (public ++ message))
+challengeInput filled salt public message = filled ++ (public ++ (salt ++ message))
 
 -- what the signer has, from a secret key, a public key and seeds
 module _ (p : Set) (C : Cipher) (secret public seeds : Bytes) where

@@ -112,7 +112,8 @@ fn change_bytes(bytes: &mut Vec<u8>, head: usize, noise: &mut Noise) -> String {
 }
 
 /// Changes what a signature is verified with, now and then: by something that
-/// is refused, or another limit, room, message, key or table.
+/// is refused, or another limit, which may be one that is refused, or another
+/// room, message, key or table.
 fn change_shared(shared: &mut Shared, set: &Set, noise: &mut Noise) {
     let turn = |bytes: &mut Vec<u8>, noise: &mut Noise| {
         let place = noise.between(0, bytes.len() - 1);
@@ -124,8 +125,8 @@ fn change_shared(shared: &mut Shared, set: &Set, noise: &mut Noise) {
             let choices = choices(&faults, noise.between(0, 100));
             any(&choices, noise).spoil(shared);
         }
-        1 => shared.limit = noise.between(1, 64) as u64,
-        2 => shared.limit = noise.between(1, 5) as u64,
+        1 => shared.limit = noise.between(0, 65) as u64,
+        2 => shared.limit = noise.between(0, 5) as u64,
         3 => shared.room += noise.between(1, 500),
         4 => shared.message = random_piece(noise, set.width()),
         5 => turn(&mut shared.public, noise),

@@ -89,7 +89,8 @@ fn some_rounds(set: &Set) -> [usize; 3] {
 pub fn damaged_signatures(set: &Set, values: &[u8]) -> Vec<Change> {
     let mut changes = Vec::new();
     for k in some_rounds(set) {
-        let pair = |value: u8| value << (6 - 2 * (k % 4));
+        let low_bit_first = |value: u8| ((value & 1) << 1) | (value >> 1);
+        let pair = |value: u8| low_bit_first(value) << (6 - 2 * (k % 4));
         for value in 0..=3 {
             let mask = pair(values[k]) ^ pair(value);
             let name = format!("value{k}-from{}-to{value}", values[k]);
@@ -234,4 +235,30 @@ pub fn form_faults(set: &Set, values: &[u8]) -> Vec<Wrong> {
     let transcript = form_place(set, 0) + set.digest_bytes + set.transcript_bytes();
     faults.extend(padding_fault(set, transcript));
     faults
+}
+
+#[cfg(test)]
+mod tests {
+    use super::*;
+    use crate::signature::header;
+
+    /// A changed value is the one that the name tells, 3 for a pair 11, and the
+    /// others stay.
+    #[test]
+    fn changed_values_are_those_of_their_names() {
+        for set in &SETS {
+            let values: Vec<u8> = (0..set.t).map(|k| (k * k % 3) as u8).collect();
+            let changes = damaged_signatures(set, &values);
+            for k in some_rounds(set) {
+                for value in 0..=3 {
+                    let start = format!("value{k}-from{}-to{value}", values[k]);
+                    let (_, change) = changes.iter().find(|(name, _)| *name == start).unwrap();
+                    let (mut bytes, mut others) = (header(&values), values.clone());
+                    change(&mut bytes);
+                    others[k] = value;
+                    assert_eq!(bytes, header(&others), "{}, {start}", set.name);
+                }
+            }
+        }
+    }
 }

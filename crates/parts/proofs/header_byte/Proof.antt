@@ -1,96 +1,81 @@
 -- `parts::header_byte` meets its contract.
-use Prim.Native.Nat.{ℕ, _+_, _*_, _<_}
+use mathlib.Core.Path.{_≡_}
+use Prim.Native.Nat.{ℕ, _<_}
 use native.Mathlib.Omega.{arith}
-use Rattle.shape.proofs.HeaderLaws.{header-byte}
+use Rattle.bits.specs.Bits.{Bits}
+use Rattle.bits.specs.Bytes.{value}
+use Rattle.bits.proofs.NumberLaws.{value-lt}
+use Rattle.shape.specs.Header.{pairBits}
+use Rattle.shape.proofs.HeaderLaws.{byte-of-pairs}
 use borrow.Author.Needs.{needs}
 use Rattle.parts.proofs.header_byte.Statement.{statement}
 use Rattle.parts.proofs.header_byte.Tie as tie
 
-small : {v : ℕ} → v < 3 → v < 4
-small h = omega arith
+-- a pair is below four
+small : (f : Bits) {v : ℕ} → v ≡ value 2 f → v < 4
+small f e = omega (arith, value-lt 2 f)
 
 mul-k : tie.Need-mul-k
 mul-k c = search needs
 
-value-or-zero-requires : tie.Need-value-or-zero-requires
-value-or-zero-requires c κs = search needs
+pair-requires : tie.Need-pair-requires
+pair-requires c κs = search needs
 
 mul-result : tie.Need-mul-result
-mul-result c = omega (arith, c .before .before .pre .1 (4 * c .before .before .args .i))
+mul-result c = omega (arith, small _ (c .pair .ensures))
 
-add-value-or-zero : tie.Need-add-value-or-zero
-add-value-or-zero c = search needs
+add-pair : tie.Need-add-pair
+add-pair c = search needs
 
-value-or-zero-requires-2 : tie.Need-value-or-zero-requires-2
-value-or-zero-requires-2 c κs = search needs
+pair-requires-2 : tie.Need-pair-requires-2
+pair-requires-2 c κs = search needs
 
 mul-result-2 : tie.Need-mul-result-2
-mul-result-2 c = omega (arith, c .before .before .before .pre .1 (4 * c .before .before .before .args .i + 1))
+mul-result-2 c = omega (arith, small _ (c .pair2 .ensures))
 
 add-result : tie.Need-add-result
-add-result c =
-    let start = c .before .before .before in
-    omega (arith, start .pre .1 (4 * start .args .i), start .pre .1 (4 * start .args .i + 1))
+add-result c = omega (arith, small _ (c .before .pair .ensures), small _ (c .pair2 .ensures))
 
-add-value-or-zero-2 : tie.Need-add-value-or-zero-2
-add-value-or-zero-2 c = search needs
+add-pair-2 : tie.Need-add-pair-2
+add-pair-2 c = search needs
 
-value-or-zero-requires-3 : tie.Need-value-or-zero-requires-3
-value-or-zero-requires-3 c κs = search needs
+pair-requires-3 : tie.Need-pair-requires-3
+pair-requires-3 c κs = search needs
 
 mul-result-3 : tie.Need-mul-result-3
-mul-result-3 c = omega (arith, c .before .before .before .before .pre .1 (4 * c .before .before .before .before .args .i + 2))
+mul-result-3 c = omega (arith, small _ (c .pair3 .ensures))
 
 add-result-2 : tie.Need-add-result-2
-add-result-2 c =
-    let start = c .before .before .before .before in
-    omega (arith, start .pre .1 (4 * start .args .i), start .pre .1 (4 * start .args .i + 1), start .pre .1 (4 * start .args .i + 2))
+add-result-2 c = omega (arith, small _ (c .before .before .pair .ensures), small _ (c .before .pair2 .ensures), small _ (c .pair3 .ensures))
 
-add-value-or-zero-3 : tie.Need-add-value-or-zero-3
-add-value-or-zero-3 c = search needs
+add-pair-3 : tie.Need-add-pair-3
+add-pair-3 c = search needs
 
-value-or-zero-requires-4 : tie.Need-value-or-zero-requires-4
-value-or-zero-requires-4 c κs = search needs
+pair-requires-4 : tie.Need-pair-requires-4
+pair-requires-4 c κs = search needs
 
 add-result-3 : tie.Need-add-result-3
-add-result-3 c =
-    let start = c .before .before .before .before .before in
-    omega (
-      arith,
-      start .pre .1 (4 * start .args .i),
-      start .pre .1 (4 * start .args .i + 1),
-      start .pre .1
-          (4 * start .args .i + 2),
-      start .pre .1 (4 * start .args .i + 3),
-    )
+add-result-3 c = omega (arith, small _ (c .before .before .before .pair .ensures), small _ (c .before .before .pair2 .ensures), small _ (c .before .pair3 .ensures), small _ (c .pair4 .ensures))
 
 returns : tie.Need-returns
-returns c =
-    let start = c .before .before .before .before .before in
-    rw (
-      c .before .before .before .value-or-zero .ensures,
-      c .before .before .value-or-zero2 .ensures,
-      c .before .value-or-zero3 .ensures,
-      c .value-or-zero4 .ensures,
-    )
-    (header-byte (start .args .values .now) (start .args .i) (λ k. small (start .pre .1 k)))
+returns c = rw (c .before .before .before .pair .ensures, c .before .before .pair2 .ensures, c .before .pair3 .ensures, c .pair4 .ensures) (byte-of-pairs (pairBits (c .before .before .before .before .before .args .values .now)) (c .before .before .before .before .before .args .i))
 
 pub header-byte-spec : {M : Type 1} → statement M
 header-byte-spec =
     tie.close
     (tie.spec
     mul-k
-    value-or-zero-requires
+    pair-requires
     mul-result
-    add-value-or-zero
-    value-or-zero-requires-2
+    add-pair
+    pair-requires-2
     mul-result-2
     add-result
-    add-value-or-zero-2
-    value-or-zero-requires-3
+    add-pair-2
+    pair-requires-3
     mul-result-3
     add-result-2
-    add-value-or-zero-3
-    value-or-zero-requires-4
+    add-pair-3
+    pair-requires-4
     add-result-3
     returns)

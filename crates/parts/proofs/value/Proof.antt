@@ -1,28 +1,39 @@
 -- `parts::value` meets its contract.
+use mathlib.Core.Path.{refl, _∙_}
 use Rattle.shape.proofs.HeaderLaws.{value-in-byte}
 use borrow.Author.Needs.{needs}
 use Rattle.parts.proofs.value.Statement.{statement}
 use Rattle.parts.proofs.value.Tie as tie
 
-shared-slice-read-result : tie.Need-shared-slice-read-result
-shared-slice-read-result c = search needs
+shared-slice-read-exchanged : tie.Need-shared-slice-read-exchanged
+shared-slice-read-exchanged c = search needs
 
-mul-result : tie.Need-mul-result
-mul-result c = search needs
+mul-exchanged : tie.Need-mul-exchanged
+mul-exchanged c = search needs
 
-sub-result : tie.Need-sub-result
-sub-result c = search needs
+sub-exchanged : tie.Need-sub-exchanged
+sub-exchanged c = search needs
 
-cast-result : tie.Need-cast-result
-cast-result c = search needs
+cast-exchanged : tie.Need-cast-exchanged
+cast-exchanged c = search needs
 
-shr-result : tie.Need-shr-result
-shr-result c = search needs
+shr-exchanged : tie.Need-shr-exchanged
+shr-exchanged c = search needs
+
+exchanged-requires : tie.Need-exchanged-requires
+exchanged-requires c κs = search needs
 
 returns : tie.Need-returns
-returns c = value-in-byte (c .before .args .s .now) (c .before .args .k)
+returns c = c .exchanged .ensures ∙ value-in-byte (c .before .before .before .args .s .now) (c .before .before .before .args .k) _ refl
 
 pub value-spec : {M : Type 1} → statement M
 value-spec =
     tie.close
-    (tie.spec shared-slice-read-result mul-result sub-result cast-result shr-result returns)
+    (tie.spec
+    shared-slice-read-exchanged
+    mul-exchanged
+    sub-exchanged
+    cast-exchanged
+    shr-exchanged
+    exchanged-requires
+    returns)

@@ -200,14 +200,14 @@ module _ {M : Type 1} (𝓤 : URA M) (H : Heap 𝓤) (A : Atoms 𝓤) (W : Given
   goes-pair r r′ u u′ =
       qed W (‵ (S.the-row .own r (u ∷ [])) ∷ ‵ (S.the-row .own r′ (u′ ∷ [])) ∷ []) ∵ nothing ! $ move ! (2 ∷ 0 ∷ []) $ fjoin ! $ move ! (1 ∷ 0 ∷ []) $ fjoin ! $ nothing ! $ join ! $ frame ! $ done !
 
-  said-pair : (r r′ : Next) (n : ℕ) → ent 𝓤 (ensured 𝓤 H A pair.ended (pair.clauses 𝓤 H A at-mem run) tt (r, (r′, tt)) tt n) (fact 𝓤 (n ≡ 2 * digitOf r + digitOf r′))
-  said-pair r r′ n = exE 𝓤 _ (λ ws. snd∗ 𝓤 (sem 𝓤 H A (lasts pair.ended tt (r, (r′, tt)) ws)) (fact 𝓤 (n ≡ 2 * digitOf r + digitOf r′)))
+  said-pair : (r r′ : Next) (n : ℕ) → ent 𝓤 (ensured 𝓤 H A pair.ended (pair.clauses 𝓤 H A at-mem run) tt (r, (r′, tt)) tt n) (fact 𝓤 (n ≡ digitOf r + 2 * digitOf r′))
+  said-pair r r′ n = exE 𝓤 _ (λ ws. snd∗ 𝓤 (sem 𝓤 H A (lasts pair.ended tt (r, (r′, tt)) ws)) (fact 𝓤 (n ≡ digitOf r + 2 * digitOf r′)))
 
-  exits : (n : ℕ) (w : Val) (r r′ : Next) → r ≡ first → r′ ≡ second → n ≡ 2 * digitOf r + digitOf r′ → ent 𝓤 (⋆ 𝓤 H A (‵ (u8 .own n (w ∷ [])) ∷ ‵ (flft κ ql) ∷ (‵ (flft κ qr) ⊛ ‵ ftrue) ∷ ‵ Sig ∷ [])) (Post w)
+  exits : (n : ℕ) (w : Val) (r r′ : Next) → r ≡ first → r′ ≡ second → n ≡ digitOf r + 2 * digitOf r′ → ent 𝓤 (⋆ 𝓤 H A (‵ (u8 .own n (w ∷ [])) ∷ ‵ (flft κ ql) ∷ (‵ (flft κ qr) ⊛ ‵ ftrue) ∷ ‵ Sig ∷ [])) (Post w)
   exits n w r r′ e e′ d =
       qed W (‵ (u8 .own n (w ∷ [])) ∷ ‵ (flft κ ql) ∷ (‵ (flft κ qr) ⊛ ‵ ftrue) ∷ ‵ Sig ∷ []) ∵
       suffices ! _ (ends-at 𝓤 H A value.ended stayed (value.clauses 𝓤 H A at-mem run) W (((κ, tt), (q, tt), tt, a, vals), tt) w n (tt, (tt, tt)) (tt, (tt, tt))) $
-      says ! (d ∙ ((λ i. 2 * digitOf (e i) + digitOf (e′ i)) ∙ two-bits (now s) k within)) $
+      says ! (d ∙ ((λ i. digitOf (e i) + 2 * digitOf (e′ i)) ∙ two-bits (now s) k within)) $
       move ! (2 ∷ []) $ split ! $ move ! (3 ∷ 0 ∷ []) $ use2 W (‵ (flft κ q)) (W .lfts .lft-join κ q) $ join ! $ frame ! $
       nothing ! $ owned ! usize (Is usize) (uint-makes 𝓤 H A W w64) k _ (refl, k-fits) $ fjoin ! $ move ! (2 ∷ 0 ∷ []) $ fjoin ! $ frame ! $ done !
 
@@ -264,7 +264,7 @@ module _ {M : Type 1} (𝓤 : URA M) (H : Heap 𝓤) (A : Atoms 𝓤) (W : Given
         move ! (4 ∷ 0 ∷ []) $ use2 W (raw (Pair 𝓤 H A at-mem run .pre (to-pair r r′ u u′))) (goes-pair r r′ u u′) $
         calls-at ! fm (Pair 𝓤 H A at-mem run) known-pair (to-pair r r′ u u′) (and-then ! (load ! (from ! (stop !)) (look ! 13 refl)) (and-then ! (load ! (from ! (stop !)) (look ! 11 refl)) (no-more !))) (λ w.
         use1 W (later (some (λ (n : ℕ). (‵ ftrue ⊛ ‵ (u8 .own n (w ∷ []))) ⊛ raw (ensured 𝓤 H A pair.ended (pair.clauses 𝓤 H A at-mem run) tt (r, (r′, tt)) tt n)))) (id⊢ 𝓤 _) $ await ! tt $ pick ! (λ n.
-        split ! $ move ! (1 ∷ []) $ use1 W (raw (fact 𝓤 (n ≡ 2 * digitOf r + digitOf r′))) (said-pair r r′ n) $ heard ! (n ≡ 2 * digitOf r + digitOf r′) (λ d. split ! $ move ! (1 ∷ []) $
+        split ! $ move ! (1 ∷ []) $ use1 W (raw (fact 𝓤 (n ≡ digitOf r + 2 * digitOf r′))) (said-pair r r′ n) $ heard ! (n ≡ digitOf r + 2 * digitOf r′) (λ d. split ! $ move ! (1 ∷ []) $
         -- [the value; true; the left token; _3; the right token; what signature owns; _8; …; _7; …; _6; …; _5; …; _4; …; …; _2; …; _1; …; room for _0; …]
         peeks ! u8 (Is u8) (shows 𝓤 H A u8) n (w ∷ []) (λ is″.
         land ! (from ! (stop !)) (init ! 21 refl (uint-lawful 𝓤 H A W w8 .typed n _ is″ .0)) $
