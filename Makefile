@@ -2,9 +2,10 @@
 # make bench: time and stack. make vectors: our own known answers, in target/vectors.
 # make secrets: no branch and no address depends on a secret.
 # make soak: noisy calls for a minute, or with SECONDS=n for so long, and with SEED=n from that seed on.
+# make interop: the library against a partner's program, 60 keys and messages in each set, or with COUNT=n so many.
 # make install: the library, its header, the command and its manual page below PREFIX, and that below DESTDIR if it is given;
 # make uninstall removes them.
-.PHONY: demo test bench vectors secrets soak install uninstall fmt clean
+.PHONY: demo test bench vectors secrets soak interop install uninstall fmt clean
 
 PREFIX = /usr/local
 
@@ -25,6 +26,9 @@ secrets:
 
 soak:
 	@hosts/soak $(if $(SECONDS),$(SECONDS),60) $(SEED)
+
+interop:
+	@hosts/interop $(if $(COUNT),$(COUNT),60)
 
 install:
 	@DESTDIR="$(DESTDIR)" hosts/install "$(PREFIX)"

@@ -11,16 +11,6 @@
 #include "names.h"
 #include "picnic.h"
 
-#define SET(set, name)                                                                                                         \
-    { PICNIC_##set, name, PICNIC_##set##_BLOCK, PICNIC_##set##_PUBLIC, PICNIC_##set##_KEYS, PICNIC_##set##_LAYERS,             \
-      PICNIC_##set##_CONSTANTS, PICNIC_##set##_SEEDS, PICNIC_##set##_ROOM, PICNIC_##set##_SIGNATURE, PICNIC_##set##_UNPACKED }
-
-static const struct set sets[] = {
-    SET(L1_FS, "picnic-L1-FS"),
-    SET(L3_FS, "picnic-L3-FS"),
-    SET(L5_FS, "picnic-L5-FS"),
-};
-
 /* What is lent to the library, with room for the largest set. What comes from a file has a byte more, so that a file that is
    too long is seen to be; to refuse it is left to the library. */
 static uint8_t tables[PICNIC_L5_FS_KEYS + PICNIC_L5_FS_LAYERS + PICNIC_L5_FS_CONSTANTS + 1];
@@ -37,16 +27,6 @@ static size_t secret_length;
 static void clear_secrets(void)
 {
     forget(&secrets, sizeof secrets);
-}
-
-const struct set *find_set(const char *word)
-{
-    size_t i;
-
-    for (i = 0; i < sizeof sets / sizeof sets[0]; i++)
-        if (strcmp(sets[i].name, word) == 0 || (word[0] == (char)('0' + sets[i].number) && word[1] == '\0'))
-            return &sets[i];
-    return NULL;
 }
 
 /* How many bytes of a file are in the part that starts at a place and should have the given length. The last part of a file has

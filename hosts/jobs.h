@@ -5,14 +5,9 @@
 #include <stddef.h>
 #include <stdint.h>
 
-enum { REFUSED = 1, BAD = 2, MOST_FILES = 3 }; /* two exit statuses, and how many files a subcommand can take */
+#include "sets.h"
 
-/* The lengths of a set, as the header has them. */
-struct set {
-    uint64_t number;
-    const char *name;
-    size_t block, public_key, keys, layers, constants, seeds, room, signature, unpacked;
-};
+enum { REFUSED = 1, BAD = 2, MOST_FILES = 3 }; /* two exit statuses, and how many files a subcommand can take */
 
 /* What the command line asks for. The last file is the one that is written, but in verifying. */
 struct job {
@@ -20,9 +15,6 @@ struct job {
     const char *tables, *files[MOST_FILES]; /* tables: the file that has them, or NULL to draw them */
     int file_count;
 };
-
-/* The set of a number or a name; NULL if there is none. */
-const struct set *find_set(const char *word);
 
 /* Each does one job. A refusal of the library, and a file that cannot be read or written, end the program with a message and
    the status 1 or 2; then no file is written. Secrets are cleared however the program ends. */

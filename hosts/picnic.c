@@ -5,6 +5,7 @@
 #include <string.h>
 
 #include "jobs.h"
+#include "picnic.h"
 
 static const struct command {
     const char *name;
@@ -54,7 +55,7 @@ static void help(void)
         printf("    %s\n", commands[i].does);
     }
     printf("picnic help\n    prints this text\n"
-           "picnic --version\n    prints the version\n\n"
+           "picnic --version\n    prints the version and the number of the library's interface\n\n"
            "The set N is 1, 2 or 3, or by its name picnic-L1-FS, picnic-L3-FS or picnic-L5-FS. The tables are drawn anew,\n"
            "or read from a file that picnic tables wrote. The exit status is 0 for done or valid, 1 for what the library\n"
            "refuses, 2 for bad usage and for files that cannot be read or written.\n");
@@ -127,7 +128,7 @@ int main(int argc, char **argv)
     if (strcmp(word, "help") == 0 || strcmp(word, "--help") == 0)
         help();
     if (strcmp(word, "--version") == 0) {
-        puts("picnic " VERSION);
+        printf("picnic " VERSION ", interface %d\n", PICNIC_INTERFACE);
         return status();
     }
     if (argc < 2)

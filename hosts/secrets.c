@@ -9,12 +9,14 @@
 #include "inputs.h"
 #include "phases.h"
 
-/* The values in the header of a signature, two bits each. */
+/* The values in the header of a signature, two bits each, the low one first. */
 static void read_values(const struct inputs *in, uint8_t *values)
 {
     size_t k;
-    for (k = 0; k < in->lengths->values; k++)
-        values[k] = in->output[k / 4] >> (6 - 2 * (k % 4)) & 3;
+    for (k = 0; k < in->lengths->values; k++) {
+        unsigned pair = in->output[k / 4] >> (6 - 2 * (k % 4)) & 3u;
+        values[k] = (uint8_t)(pair >> 1 | (pair & 1) << 1);
+    }
 }
 
 static void hide(const struct inputs *in)

@@ -11,6 +11,8 @@
  *   refusal other than PICNIC_FINE has 0 in its lower half. A call has one answer for every input: the first refusal
  *   that holds, in rising number unless the call says otherwise.
  * - Outputs. A call with an output fills its start and keeps what follows; a refusal keeps all of it.
+ * - Signatures are those of Picnic 2.1 as its reference implementation has them: over the tables of the LowMC reference, a
+ *   program that follows it accepts what picnic_sign writes, and picnic_verify accepts what that program signs.
  * - A call asks nothing of the host beforehand but valid slices. It keeps no state, takes no memory, and is safe to make
  *   from several threads on slices that are not shared.
  *
@@ -25,6 +27,10 @@
 #ifdef __cplusplus
 extern "C" {
 #endif
+
+/* The interface's number, raised whenever the arguments of a call or the meaning of its answer change. CHANGES.md, in the
+   library's sources, says what changed with each. A header without a number is older than the first. */
+#define PICNIC_INTERFACE 1
 
 /* The two halves of an answer. */
 #define PICNIC_REFUSAL(answer) ((uint32_t)((uint64_t)(answer) >> 32))

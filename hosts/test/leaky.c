@@ -53,7 +53,7 @@ static void fill(const uint8_t *secret, const uint8_t *seeds, uint8_t *room)
     }
 }
 
-/* Values that follow from the room, and no branch on them. */
+/* Values that follow from the room, 0 or 2, and no branch on them. */
 static void challenge(const uint8_t *room, const uint8_t *secret, volatile uint8_t *values)
 {
     size_t k;
@@ -81,7 +81,8 @@ uint64_t __wrap_picnic_sign(uint64_t set, const uint8_t *keys, size_t keys_lengt
     challenge(room, secret, values);
     memset(room, 0, PICNIC_L1_FS_ROOM);
     leak(5, secret[0]);
+    /* The header, low bits first: the pair of 2 is 01. */
     for (k = 0; k < PICNIC_L1_FS_VALUES + 1; k += 4)
-        output[k / 4] = (uint8_t)(values[k] << 6 | values[k + 1] << 4 | values[k + 2] << 2 | values[k + 3]);
+        output[k / 4] = (uint8_t)(values[k] << 5 | values[k + 1] << 3 | values[k + 2] << 1 | values[k + 3] >> 1);
     return 55;
 }

@@ -1,6 +1,5 @@
 -- Two unpacked forms from which one input of the challenge is recomputed: salt, output shares and commitments are the same.
 use mathlib.Core.Path.{_≡_, refl, sym, _∙_}
-use mathlib.Core.List.{_++_}
 use Prim.Native.Nat.{ℕ, _+_, _<_}
 use native.Mathlib.Omega.{arith}
 use lib.ListN.{length, length-append}

@@ -1,4 +1,4 @@
--- P1 to P12 of 01 in one table: facts about the definitions that the promises use.
+-- P1 to P12 of 01, P12 as 02 has it, in one table: facts about the definitions that the promises use.
 use Rattle.circuit.specs.Examples.{SboxExamples, GateExample}
 use Rattle.challenge.specs.Examples.{PairExamples}
 use Rattle.shape.specs.Examples.{P12}
@@ -10,5 +10,5 @@ pub record Table : Type 0 where
   pub p9-and-p10 : PairExamples
   -- P11: a = (1,0,0), b = (0,1,0), tape bits (1,0,1): the gate gives (0,1,0)
   pub p11 : GateExample
-  -- P12: values 0, 1, 2, 0 start a header with byte 18 hex
+  -- P12: values 0, 1, 2, 0 start a header with byte 24 hex
   pub p12 : P12

@@ -7,7 +7,7 @@ use lib.Dec.{lit<}
 use lib.ListN.{length}
 use borrow.Author.Tests.{lt-ltb}
 use Rattle.slices.specs.Slices.{Bytes}
-use Rattle.bits.specs.Bytes.{bitsOf, digit}
+use Rattle.bits.specs.Bytes.{bitsOf}
 use Rattle.shape.specs.Header.{valueAt, place}
 use Rattle.reader.specs.declared.Next.{Next}
 use Rattle.reader.specs.declared.Next.the-variants.{Bit, End}

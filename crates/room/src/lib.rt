@@ -144,7 +144,7 @@ pub fn put_commitments(p: Set, t: usize, e: u8, x: &[u8], y: &[u8], z: &[u8], ro
     put_by_party(e, x, y, z, room, at);
 }
 
-// The challenge of a filled room, salt, public key and message: T values at the start of out, one a byte, and whether they fill place T.
+// The challenge of a filled room, public key, salt and message: T values at the start of out, one a byte, and whether they fill place T.
 pub fn challenge(
     p: Set,
     filled: &[u8],

@@ -15,7 +15,7 @@ use Rattle.slices.proofs.SliceLaws.{length-joined}
 use Rattle.bits.specs.Bits.{Bits, from, upTo}
 use Rattle.bits.specs.Bytes.{odd, bit, bitsOf, digit, value}
 use Rattle.bits.proofs.BitsLaws.{upTo-in, upTo-out}
-use Rattle.bits.proofs.NumberLaws.{below, digit-odd, bit-zero, value-cong, value-add}
+use Rattle.bits.proofs.NumberLaws.{below, digit-le, digit-odd, bit-zero, value-cong, value-add}
 use Rattle.bits.proofs.BytesLaws.{at-bit, length-bytesOf, bytesOf-cong, bits-of-bytesOf, packed, packed-bytes}
 use Rattle.sets.specs.declared.Set.{Set}
 use Rattle.sets.specs.Lengths.{header}
@@ -60,13 +60,9 @@ two-of-value (suc (suc zero)) h = refl
 two-of-value (suc (suc (suc zero))) h = refl
 two-of-value (suc (suc (suc (suc v)))) h = absurd (omega arith)
 
-exchanged-two : (v : ℕ) → v < 4 → 2 * digit (bit v 0) + digit (bit v 1) ≡ 2 * (v % 2) + v / 2
-unfolding bit odd
-exchanged-two zero h = refl
-exchanged-two (suc zero) h = refl
-exchanged-two (suc (suc zero)) h = refl
-exchanged-two (suc (suc (suc zero))) h = refl
-exchanged-two (suc (suc (suc (suc v)))) h = absurd (omega arith)
+-- a number of two bits with the bits exchanged
+exchanged : (v a b : ℕ) → b < 2 → v ≡ 2 * a + b → 2 * (v % 2) + v / 2 ≡ 2 * b + a
+exchanged v a b h e = omega arith
 
 -- ---- the values of a header
 
@@ -159,13 +155,11 @@ module _ (p : Set) (vs : List ℕ) (rest : Bytes) where
 
 -- ---- as code goes: by bytes, whose pairs are numbers with the bits exchanged
 
-exchanged-pair : (x a b : ℕ) → b < 2 → x ≡ 2 * a + b → 2 * (x % 2) + x / 2 ≡ 2 * b + a
-exchanged-pair x a b h e = omega arith
-
 -- a value from the byte that holds it
-pub value-in-byte : (s : Bytes) (k : ℕ) (x : ℕ) → x ≡ getD s (k / 4) 0 / 2 ^ (6 - 2 * (k % 4)) % 4 → 2 * (x % 2) + x / 2 ≡ valueAt s k
+pub value-in-byte : (s : Bytes) (k : ℕ)
+    → 2 * (getD s (k / 4) 0 / 2 ^ (6 - 2 * (k % 4)) % 4 % 2) + getD s (k / 4) 0 / 2 ^ (6 - 2 * (k % 4)) % 4 / 2 ≡ valueAt s k
 unfolding valueAt place bit
-value-in-byte s k x e =
+value-in-byte s k =
     let v = getD s (k / 4) 0 in
     let j = 2 * (k % 4) in
     let first : bitsOf s (2 * k + 0) ≡ bit v (6 - j + 1) =
@@ -176,7 +170,7 @@ value-in-byte s k x e =
     let z : ℕ = v / 2 ^ (6 - j + 1) in
     let two : y / 2 ≡ z = shr-shr v (6 - j) 1 in
     let four : y % 4 ≡ 2 * (y / 2 % 2) + y % 2 = omega arith in
-    exchanged-pair x (y / 2 % 2) (y % 2) (omega arith) (e ∙ four)
+    exchanged (y % 4) (y / 2 % 2) (y % 2) (omega arith) four
     ∙ (ap₂ (λ (a b : ℕ). 2 * a + b % 2) (digit-odd y) two
     ∙ (ap (λ (a : ℕ). 2 * digit (odd y) + a) (digit-odd z) ∙ sym (ap₂ (λ (a b : Bool). 2 * digit a + digit b) second first)))
 
@@ -197,9 +191,9 @@ pairs-end vs = λ q i. at i q
 pub pair-value : (vs : List ℕ) (k : ℕ) → getD vs k 0 < 4 → 2 * (getD vs k 0 % 2) + getD vs k 0 / 2 ≡ value 2 (from (2 * k) (pairBits vs))
 unfolding value pairBits place
 pair-value vs k h =
-    sym
-    (ap₂ (λ (a b : Bool). (0 * 2 + digit a) * 2 + digit b) (there 0 (omega arith)) (there 1 (omega arith))
-    ∙ (omega arith ∙ exchanged-two (getD vs k 0) h))
+    let v = getD vs k 0 in
+    exchanged v (digit (bit v 1)) (digit (bit v 0)) (omega (arith, digit-le (bit v 0))) (sym (two-of-value v h))
+    ∙ (omega arith ∙ sym (ap₂ (λ (a b : Bool). (0 * 2 + digit a) * 2 + digit b) (there 0 (omega arith)) (there 1 (omega arith))))
   where
     there : (b : ℕ) → b < 2 → pairBits vs (2 * k + b) ≡ bit (getD vs k 0) b
     there b l =

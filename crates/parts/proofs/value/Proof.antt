@@ -1,5 +1,5 @@
 -- `parts::value` meets its contract.
-use mathlib.Core.Path.{refl, _∙_}
+use mathlib.Core.Path.{_∙_}
 use Rattle.shape.proofs.HeaderLaws.{value-in-byte}
 use borrow.Author.Needs.{needs}
 use Rattle.parts.proofs.value.Statement.{statement}
@@ -24,7 +24,7 @@ exchanged-requires : tie.Need-exchanged-requires
 exchanged-requires c κs = search needs
 
 returns : tie.Need-returns
-returns c = c .exchanged .ensures ∙ value-in-byte (c .before .before .before .args .s .now) (c .before .before .before .args .k) _ refl
+returns c = c .exchanged .ensures ∙ value-in-byte (c .before .before .before .args .s .now) (c .before .before .before .args .k)
 
 pub value-spec : {M : Type 1} → statement M
 value-spec =

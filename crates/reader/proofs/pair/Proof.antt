@@ -12,7 +12,8 @@ digit-requires-2 : tie.Need-digit-requires-2
 digit-requires-2 c κs = search needs
 
 mul-result : tie.Need-mul-result
-mul-result c = omega (arith, c .digit2 .ensures, digit-small (c .before .before .args .high))
+mul-result c =
+    omega (arith, c .digit2 .ensures, digit-small (c .before .before .args .low), digit-small (c .before .before .args .high))
 
 add-result : tie.Need-add-result
 add-result c = omega (arith, c .before .digit .ensures, c .digit2 .ensures, digit-small (c .before .before .args .low), digit-small (c .before .before .args .high))
