@@ -1,7 +1,6 @@
 /* Times one thing that the library does: bench-call WHAT SET TURNS TIMES FILE. The file has the key matrices, the layer
    matrices and the round constants of the set. A turn does the thing so many times. Prints the nanoseconds of one time in the
-   quickest turn, and what came of the last in hex, which `second bench WHAT SET TURNS TIMES` has too if it did the same work.
-   SIGNING is defined if the header has the calls for it. */
+   quickest turn, and what came of the last in hex, which `second bench WHAT SET TURNS TIMES` has too if it did the same work. */
 #include <stdio.h>
 #include <stdlib.h>
 #include <string.h>
@@ -99,7 +98,6 @@ static void encrypt(void)
     memcpy(last, output, set->block);
 }
 
-#ifdef SIGNING
 /* Signing a message with derived seeds, and verifying the signature. A hash of the signature is what came of it. */
 static const uint8_t message[] = "A package of record layouts and call sheets.";
 enum { MESSAGE = sizeof message - 1 };
@@ -132,7 +130,6 @@ static void prepare_sign(void)
     last_length = MARK;
     check(picnic_hash(set->number, signature, (size_t)length, last, MARK), MARK);
 }
-#endif
 
 /* The things that are timed. */
 static const struct task {
@@ -142,10 +139,8 @@ static const struct task {
 } tasks[] = {
     { "hash", prepare_hash, hash },
     { "encrypt", prepare_encrypt, encrypt },
-#ifdef SIGNING
     { "sign", prepare_sign, sign },
     { "verify", prepare_sign, verify },
-#endif
 };
 
 static const struct task *find_task(const char *name)

@@ -158,7 +158,7 @@ uint64_t picnic_write(uint64_t set, const uint8_t *unpacked, size_t unpacked_len
                       size_t output_length);
 
 /* Signs a message of 1 to PICNIC_MESSAGE_MOST bytes under a secret key. The public key is its ciphertext, then its
-   plaintext block: refusal 7 if they are no pair. Limit: at most so many blocks of the challenge are hashed, 1 to
+   plaintext block: refusal 7 if they are no pair. Limit: at most so many blocks of the challenge are read, 1 to
    PICNIC_LIMIT_MOST; refusal 8 if they give too few values. The seeds, PICNIC_.._SEEDS bytes, are random or from
    picnic_seeds, and never used for two messages; they and the secret key stay secret. The room holds at least
    PICNIC_.._ROOM bytes; so many of them are zero after an answer of 0 or 8. The output holds at least

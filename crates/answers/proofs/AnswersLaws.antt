@@ -2,12 +2,12 @@
 use mathlib.Core.Path.{_≡_, refl, sym, ap, _∙_}
 use mathlib.Core.Bool.{Bool, true, false, cond}
 use mathlib.Core.List.{List, [], _∷_, _++_}
-use Prim.Native.Nat.{ℕ, _≤_}
+use Prim.Native.Nat.{ℕ, _^_, _≤_, _<_}
 use native.Mathlib.Omega.{arith}
 use lib.Dec.{T, lit≤}
 use Rattle.answers.specs.declared.Refusal.{Refusal}
 use Rattle.answers.specs.declared.Refusal.the-variants.{Fine, NoSet, Table, Key, Message, Limit, Room, Pair, Blocks, Length, Header, Padding, Differs}
-use Rattle.answers.specs.Answers.{number, fine, Check, when, first}
+use Rattle.answers.specs.Answers.{number, fine, Check, when, first, answer, Halves}
 
 -- by cases, for any property
 pub each-refusal : (P : Refusal → Type 0) → P Fine → P NoSet → P Table → P Key → P Message → P Limit → P Room → P Pair → P Blocks
@@ -132,3 +132,8 @@ module _ (tables keys message limit room : Bool) where
           pub first-none : room ≡ false → Fine ≡ answered
           unfolding first
           first-none e = rw (a, b, c, d, e)
+
+-- ---- the halves of an answer
+
+pub halves-of : (r : Refusal) (n : ℕ) → n < 2 ^ 32 → Halves (answer r n) r n
+halves-of r n h = record { upper = omega arith; lower = omega arith; small = h }

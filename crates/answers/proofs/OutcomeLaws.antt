@@ -1,6 +1,6 @@
 -- What a call's promise settles, and the laws by which a call meets it.
 use mathlib.Core.Path.{_≡_}
-use mathlib.Core.Bool.{true, false}
+use mathlib.Core.Bool.{Bool, true, false}
 use mathlib.Core.List.{List}
 use Prim.Native.Nat.{ℕ}
 use lib.ListN.{length}
@@ -10,11 +10,11 @@ use Rattle.sets.specs.declared.Chosen.{Chosen}
 use Rattle.sets.specs.declared.Chosen.the-variants.{Known, Unknown}
 use Rattle.answers.specs.declared.Refusal.{Refusal}
 use Rattle.answers.specs.declared.Refusal.the-variants.{Fine, NoSet}
-use Rattle.answers.specs.Answers.{fine, Check, first, answer}
-use Rattle.answers.specs.Outcome.{Outcome, refused, gives, unless, withSet, answerOf, leftBy, Promise, Same}
+use Rattle.answers.specs.Answers.{fine, Check, when, first, answer}
+use Rattle.answers.specs.Outcome.{Outcome, refused, gives, unless, behind, withSet, answerOf, leftBy, Promise, SameEnd}
 
-pub same : Same
-unfolding Same
+pub same : SameEnd
+unfolding SameEnd
 same o before m n after last p q = (cc, cc)
 
 -- no such set
@@ -35,6 +35,16 @@ unless-refused ks vs r e f = rw (e, f)
 pub unless-given : (ks : List Check) (vs : Bytes) (r : Refusal) → first ks ≡ r → fine r ≡ true → unless ks vs ≡ gives vs
 unfolding unless
 unless-given ks vs r e f = rw (e, f)
+
+-- a check in front that holds refuses
+pub behind-holds : (b : Bool) (r : Refusal) (o : Outcome) → b ≡ true → behind (when b r) o ≡ refused r
+unfolding behind
+behind-holds b r o e = rw e
+
+-- one that does not hold leaves the outcome
+pub behind-passes : (b : Bool) (r : Refusal) (o : Outcome) → b ≡ false → behind (when b r) o ≡ o
+unfolding behind
+behind-passes b r o e = rw e
 
 -- ---- how a call meets its promise
 

@@ -11,16 +11,16 @@ other wanted found = not (eqb found wanted)
 
 -- 2: a table has another length
 unfoldable pub tablesOther : Set → (keys layers constants : ℕ) → Bool
-tablesOther p keys layers constants =
-    other (keysLength p) keys || other (layersLength p) layers || other (constantsLength p) constants
+tablesOther set keys layers constants =
+    other (keysLength set) keys || other (layersLength set) layers || other (constantsLength set) constants
 
 -- 3: a key or block has another length, where a call takes a secret key and a plaintext block
 unfoldable pub blocksOther : Set → (secret block : ℕ) → Bool
-blocksOther p secret block = other (w p) secret || other (w p) block
+blocksOther set secret block = other (w set) secret || other (w set) block
 
 -- 3: where it takes a secret key and a public key
 unfoldable pub keysOther : Set → (secret public : ℕ) → Bool
-keysOther p secret public = other (w p) secret || other (publicLength p) public
+keysOther set secret public = other (w set) secret || other (publicLength set) public
 
 -- the longest message
 abbrev pub messageMost : ℕ

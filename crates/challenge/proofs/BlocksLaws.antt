@@ -1,6 +1,5 @@
 -- Laws of the blocks of a challenge: what more blocks add, and which number of blocks is the fewest.
 use mathlib.Core.Path.{_≡_, refl, sym, ap, _∙_}
-use mathlib.Core.Logic.{⊎-elim}
 use mathlib.Core.Bool.{Bool, true, false, cond}
 use mathlib.Core.List.{[], _∷_, _++_, append-assoc}
 use Prim.Native.Nat.{ℕ, zero, suc, _+_, _-_, _*_, _≤_, _<_}
@@ -10,29 +9,13 @@ use lib.Seq.{length-take-le, take-append-le}
 use borrow.Author.Tests.{lt-ltb, le-ltb, ltb-true, ltb-false}
 use Rattle.slices.specs.Slices.{Bytes, joined}
 use Rattle.slices.proofs.SliceLaws.{joined-add}
-use Rattle.bits.proofs.NumberLaws.{below}
 use Rattle.sets.specs.declared.Set.{Set}
-use Rattle.sets.specs.Sets.{IsSet}
-use Rattle.shake.specs.Sponge.{started, absorbed, padded, GivesShake}
-use Rattle.shake.proofs.SpongeLaws.{length-given}
-use Rattle.shake.proofs.ShakeLaws.{gives-shake}
 use Rattle.hashing.specs.Hashing.{h}
-use Rattle.hashing.proofs.HashingLaws.{rated}
-use Rattle.challenge.specs.Pairs.{pair, valueOf, valuesTo, values}
-use Rattle.challenge.specs.Blocks.{chain, block, stream, valuesIn, tooFew, firstValues, used, Fewest, UsedAreFewest}
+use Rattle.challenge.specs.Pairs.{pair, valueOf, valuesTo, allValues}
+use Rattle.challenge.specs.Blocks.{chain, stream, streamValues, tooFew, firstValues, used, Fewest, UsedAreFewest}
 use Rattle.challenge.proofs.PairsLaws.{values-front, values-append, values-small}
 
 -- ---- blocks
-
-pub length-h : {p : Set} → IsSet p → (i : ℕ) (x : Bytes) → length (h p i x) ≡ p .digest
-unfolding h GivesShake
-length-h {p} s i x =
-    ap length (sym (gives-shake (p .rate) (rated s) (i ∷ x) (p .digest))) ∙ length-given (padded (absorbed (started (p .rate)) (i ∷ x))) (p .digest)
-
-pub length-chain : {p : Set} → IsSet p → (b : Bytes) → length b ≡ p .digest → (k : ℕ) → length (chain p b k) ≡ p .digest
-unfolding chain
-length-chain s b e zero = e
-length-chain {p} s b e (suc k) = length-h s 1 (chain p b k)
 
 pub chain-first : (p : Set) (b : Bytes) → b ≡ chain p b 0
 unfolding chain
@@ -41,11 +24,6 @@ chain-first p b = refl
 pub chain-next : (p : Set) (b : Bytes) (k : ℕ) → h p 1 (chain p b k) ≡ chain p b (suc k)
 unfolding chain
 chain-next p b k = refl
-
--- the stream of an input is its blocks, one after the other
-pub stream-of : (p : Set) (x : Bytes) (n : ℕ) → stream p (h p 1 x) n ≡ joined n (block p x)
-unfolding stream block
-stream-of p x n = refl
 
 -- ---- a string that starts another
 
@@ -69,31 +47,31 @@ starts-behind xs {ys} s =
 
 -- ---- the values of a number of blocks
 
-pub in-none : (p : Set) (b : Bytes) → valuesIn p b 0 ≡ []
-unfolding valuesIn stream joined values valuesTo
+pub in-none : (p : Set) (b : Bytes) → streamValues p b 0 ≡ []
+unfolding streamValues stream joined allValues valuesTo
 in-none p b = refl
 
 -- one block more
-pub in-next : (p : Set) (b : Bytes) (n : ℕ) → valuesIn p b (suc n) ≡ valuesIn p b n ++ values (chain p b n)
-unfolding valuesIn stream joined
+pub in-next : (p : Set) (b : Bytes) (n : ℕ) → streamValues p b (suc n) ≡ streamValues p b n ++ allValues (chain p b n)
+unfolding streamValues stream joined
 in-next p b n = values-append (joined n (chain p b)) (chain p b n)
 
 -- the values of fewer blocks come first
-pub in-starts : (p : Set) (b : Bytes) (n m : ℕ) → n ≤ m → Starts (valuesIn p b n) (valuesIn p b m)
-unfolding valuesIn stream
+pub in-starts : (p : Set) (b : Bytes) (n m : ℕ) → n ≤ m → Starts (streamValues p b n) (streamValues p b m)
+unfolding streamValues stream
 in-starts p b n m le =
     let k = m - n in
     let e : m ≡ n + k = omega arith in
     record {
-      rest = values (joined k (λ i. chain p b (n + i)));
+      rest = allValues (joined k (λ i. chain p b (n + i)));
       split =
-          ap (λ (i : ℕ). values (joined i (chain p b))) e
-          ∙ (ap values (joined-add (chain p b) n k) ∙ values-append (joined n (chain p b)) (joined k (λ i. chain p b (n + i))));
+          ap (λ (i : ℕ). allValues (joined i (chain p b))) e
+          ∙ (ap allValues (joined-add (chain p b) n k) ∙ values-append (joined n (chain p b)) (joined k (λ i. chain p b (n + i))));
     }
 
 -- the first k pairs of a string start its values
-to-starts : (l : Bytes) (k : ℕ) → k ≤ 4 * length l → Starts (valuesTo k l) (values l)
-unfolding values valuesTo
+to-starts : (l : Bytes) (k : ℕ) → k ≤ 4 * length l → Starts (valuesTo k l) (allValues l)
+unfolding allValues valuesTo
 to-starts l k le =
     let m = 4 * length l - k in
     let e : 4 * length l ≡ k + m = omega arith in
@@ -114,18 +92,18 @@ module _ (p : Set) (b a : Bytes) (n : ℕ) (e : take (p .digest) a ≡ chain p b
       ∙ (values-front (take (p .digest) a) (drop (p .digest) a) k (omega (arith, pairs-there)) ∙ ap (valuesTo k) e)
 
   -- read to its end
-  pub in-block : (k : ℕ) → k ≡ 4 * p .digest → valuesIn p b n ++ valuesTo k a ≡ valuesIn p b (suc n)
-  unfolding values
+  pub in-block : (k : ℕ) → k ≡ 4 * p .digest → streamValues p b n ++ valuesTo k a ≡ streamValues p b (suc n)
+  unfolding allValues
   in-block k end =
       let q : k ≡ 4 * length (chain p b n) = omega (arith, pairs-there, ap length e) in
-      ap (λ (x : Bytes). valuesIn p b n ++ x) (its-own k (omega arith) ∙ ap (λ (i : ℕ). valuesTo i (chain p b n)) q) ∙ sym (in-next p b n)
+      ap (λ (x : Bytes). streamValues p b n ++ x) (its-own k (omega arith) ∙ ap (λ (i : ℕ). valuesTo i (chain p b n)) q) ∙ sym (in-next p b n)
 
   -- read to its pair k, where at least one block more is allowed
-  pub in-part : (k m : ℕ) → k ≤ 4 * p .digest → n < m → Starts (valuesIn p b n ++ valuesTo k a) (valuesIn p b m)
+  pub in-part : (k m : ℕ) → k ≤ 4 * p .digest → n < m → Starts (streamValues p b n ++ valuesTo k a) (streamValues p b m)
   in-part k m le more =
-      let s : Starts (valuesTo k (chain p b n)) (values (chain p b n)) = to-starts (chain p b n) k (omega (arith, pairs-there, ap length e)) in
+      let s : Starts (valuesTo k (chain p b n)) (allValues (chain p b n)) = to-starts (chain p b n) k (omega (arith, pairs-there, ap length e)) in
       rw (its-own k le)
-      (starts-trans (starts-behind (valuesIn p b n) s) (rw (in-next p b n) at (in-starts p b (suc n) m (omega arith))))
+      (starts-trans (starts-behind (streamValues p b n) s) (rw (in-next p b n) at (in-starts p b (suc n) m (omega arith))))
 
 -- ---- fewer than T values
 
@@ -133,30 +111,30 @@ module _ (p : Set) (b a : Bytes) (n : ℕ) (e : take (p .digest) a ≡ chain p b
 pub few-before : (p : Set) (b : Bytes) (n m : ℕ) → n ≤ m → tooFew p b m ≡ true → tooFew p b n ≡ true
 unfolding tooFew
 few-before p b n m le e =
-    lt-ltb (length (valuesIn p b n)) (p .t)
-    (omega (arith, starts-length (in-starts p b n m le), ltb-true (length (valuesIn p b m)) (p .t) e))
+    lt-ltb (length (streamValues p b n)) (p .t)
+    (omega (arith, starts-length (in-starts p b n m le), ltb-true (length (streamValues p b m)) (p .t) e))
 
 module _ (p : Set) (b : Bytes) (n : ℕ) (e : tooFew p b n ≡ false) where
-  enough : p .t ≤ length (valuesIn p b n)
+  enough : p .t ≤ length (streamValues p b n)
   unfolding tooFew
-  enough = ltb-false (length (valuesIn p b n)) (p .t) e
+  enough = ltb-false (length (streamValues p b n)) (p .t) e
 
   -- T values are given
   pub length-first : length (firstValues p b n) ≡ p .t
   unfolding firstValues
-  length-first = length-take-le (p .t) (valuesIn p b n) enough
+  length-first = length-take-le (p .t) (streamValues p b n) enough
 
   -- more blocks are enough too
   pub enough-after : (m : ℕ) → n ≤ m → tooFew p b m ≡ false
   unfolding tooFew
-  enough-after m le = le-ltb (length (valuesIn p b m)) (p .t) (omega (arith, enough, starts-length (in-starts p b n m le)))
+  enough-after m le = le-ltb (length (streamValues p b m)) (p .t) (omega (arith, enough, starts-length (in-starts p b n m le)))
 
   -- and give the same first T
   pub first-after : (m : ℕ) → n ≤ m → firstValues p b m ≡ firstValues p b n
   unfolding firstValues
   first-after m le =
       let s = in-starts p b n m le in
-      ap (take (p .t)) (s .split) ∙ take-append-le (p .t) (valuesIn p b n) (s .rest) enough
+      ap (take (p .t)) (s .split) ∙ take-append-le (p .t) (streamValues p b n) (s .rest) enough
 
 take-small : (n : ℕ) (l : Bytes) → ((i : ℕ) → getD l i 0 < 3) → (i : ℕ) → getD (take n l) i 0 < 3
 take-small zero l f i = omega arith
@@ -166,8 +144,8 @@ take-small (suc n) (x ∷ l) f (suc i) = take-small n l (λ j. f (suc j)) i
 
 -- each is 0, 1 or 2
 pub first-small : (p : Set) (b : Bytes) (n i : ℕ) → getD (firstValues p b n) i 0 < 3
-unfolding firstValues valuesIn
-first-small p b n = take-small (p .t) (values (stream p b n)) (values-small (stream p b n))
+unfolding firstValues streamValues
+first-small p b n = take-small (p .t) (allValues (stream p b n)) (values-small (stream p b n))
 
 -- ---- the fewest blocks
 
@@ -181,25 +159,3 @@ pub used-are-fewest : UsedAreFewest
 unfolding UsedAreFewest used
 used-are-fewest p b zero e = (omega arith, record { enough = e; fewer = λ i l. absurd (omega arith) })
 used-are-fewest p b (suc n) e = used-more p b n (tooFew p b n) refl e (used-are-fewest p b n)
-
--- there is one such number
-pub fewest-same : (p : Set) (b : Bytes) {j k : ℕ} → Fewest p b j → Fewest p b k → j ≡ k
-fewest-same p b {j} {k} f g =
-    ⊎-elim (λ (l : j < k). absurd (differ (f .enough) (g .fewer j l)))
-    (λ (l : k ≤ j).
-    ⊎-elim (λ (m : k < j). absurd (differ (g .enough) (f .fewer k m))) (λ (m : j ≤ k). let e : j ≡ k = omega arith in e) (below k j))
-    (below j k)
-  where
-    differ : {a : Bool} → a ≡ false → a ≡ true → ⊥
-    differ e d = let z : _≡_ {A = ℕ} 0 1 = cc in omega arith
-
--- a larger limit uses no more blocks
-pub used-after : (p : Set) (b : Bytes) (n m : ℕ) → tooFew p b n ≡ false → n ≤ m → used p b m ≡ used p b n
-unfolding UsedAreFewest
-used-after p b n m e le = fewest-same p b (used-are-fewest p b m (enough-after p b n e m le) .1) (used-are-fewest p b n e .1)
-
--- where n blocks are too few, all are used
-pub used-all : (p : Set) (b : Bytes) (n : ℕ) → tooFew p b n ≡ true → used p b n ≡ n
-unfolding used
-used-all p b zero e = refl
-used-all p b (suc n) e = rw (few-before p b n (suc n) (omega arith) e)

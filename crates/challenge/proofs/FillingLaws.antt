@@ -14,7 +14,7 @@ use Rattle.sets.specs.declared.Set.{Set}
 use Rattle.challenge.specs.declared.Filled.{Filled}
 use Rattle.challenge.specs.declared.Filled.the-variants.{Full, Short}
 use Rattle.challenge.specs.Pairs.{pair, valueOf, valuesTo}
-use Rattle.challenge.specs.Blocks.{chain, valuesIn, tooFew, firstValues}
+use Rattle.challenge.specs.Blocks.{chain, streamValues, tooFew, firstValues}
 use Rattle.challenge.specs.Filling.{Fills}
 use Rattle.challenge.proofs.PairsLaws.{values-none, values-next, value-skipped, value-given}
 use Rattle.challenge.proofs.BlocksLaws.{Starts, starts-length, in-starts, in-part, length-first}
@@ -84,11 +84,11 @@ pub record Ended (t : ℕ) (vs : Bytes) (got : ℕ) (before after : Bytes) : Typ
 
 -- all of m blocks are read, and place T is not filled
 pub ended-all : (p : Set) (b : Bytes) (n m : ℕ) → n ≡ m → {got got′ : ℕ} {before after after′ : Bytes}
-    → Filling (p .t) (valuesIn p b n) got before after → got′ ≡ got → after′ ≡ after → Ended (p .t) (valuesIn p b m) got′ before after′
+    → Filling (p .t) (streamValues p b n) got before after → got′ ≡ got → after′ ≡ after → Ended (p .t) (streamValues p b m) got′ before after′
 ended-all p b n m e f eg ea =
     rw (← e, eg, ea)
     (record {
-      xs = valuesIn p b n;
+      xs = streamValues p b n;
       starts = in-starts p b n n (omega arith);
       fits = f .fits;
       count = f .count;
@@ -99,15 +99,15 @@ ended-all p b n m e f eg ea =
 -- pair j of block n, in the array a, fills place T
 module _ (p : Set) (b a : Bytes) (n : ℕ) (e : take (p .digest) a ≡ chain p b n) (l : p .digest ≤ length a) where
   pub ended-at : (j v m : ℕ) → v ≡ pair a j → j < 4 * p .digest → n < m → {got got′ : ℕ} {before after after′ : Bytes}
-      → Filling (p .t) (valuesIn p b n ++ valuesTo j a) got before after → v < 3 → got′ ≡ got + 1 → after′ ≡ set after got v → got + 1 ≡ p .t
-      → Ended (p .t) (valuesIn p b m) got′ before after′
+      → Filling (p .t) (streamValues p b n ++ valuesTo j a) got before after → v < 3 → got′ ≡ got + 1 → after′ ≡ set after got v → got + 1 ≡ p .t
+      → Ended (p .t) (streamValues p b m) got′ before after′
   ended-at j v m is h k f s eg ea full =
       record {
-        xs = valuesIn p b n ++ valuesTo (j + 1) a;
+        xs = streamValues p b n ++ valuesTo (j + 1) a;
         starts = in-part p b a n e l (j + 1) m (omega arith) k;
         fits = f .fits;
-        count = stored-count (valuesIn p b n) a j v is f s eg ea;
-        wrote = stored-wrote (valuesIn p b n) a j v is f s eg ea;
+        count = stored-count (streamValues p b n) a j v is f s eg ea;
+        wrote = stored-wrote (streamValues p b n) a j v is f s eg ea;
         why = inl (eg ∙ full);
       }
 
@@ -118,11 +118,11 @@ module _ {t : ℕ} {vs : Bytes} {got : ℕ} {before after : Bytes} (f : Ended t 
   pub ended-size : length after ≡ length before
   ended-size = ap length (f .wrote) ∙ length-over (f .xs) before (omega (arith, most, f .count, f .fits))
 
-module _ (p : Set) (b : Bytes) (limit : ℕ) {got : ℕ} {before after : Bytes} (f : Ended (p .t) (valuesIn p b limit) got before after) where
+module _ (p : Set) (b : Bytes) (limit : ℕ) {got : ℕ} {before after : Bytes} (f : Ended (p .t) (streamValues p b limit) got before after) where
   pub ended-short : got < p .t → Fills p b limit before Short after
   unfolding tooFew firstValues
   ended-short h =
-      let vs = valuesIn p b limit in
+      let vs = streamValues p b limit in
       let e : vs ≡ f .xs = ⊎-elim (λ (w : got ≡ p .t). absurd (omega arith)) (λ (w : (vs ≡ f .xs) × (got < p .t)). w .0) (f .why) in
       let l : length vs < p .t = omega (arith, ap length e, f .count) in
       record {
@@ -133,7 +133,7 @@ module _ (p : Set) (b : Bytes) (limit : ℕ) {got : ℕ} {before after : Bytes} 
   pub ended-full : p .t ≤ got → Fills p b limit before Full after
   unfolding tooFew firstValues
   ended-full h =
-      let vs = valuesIn p b limit in
+      let vs = streamValues p b limit in
       let l : length (f .xs) ≡ p .t = omega (arith, most f, f .count) in
       let n : p .t ≤ length vs = omega (arith, starts-length (f .starts)) in
       record {

@@ -16,20 +16,21 @@ use Rattle.answers.specs.Conditions.{limitOut}
 use Rattle.answers.specs.declared.Refusal.the-variants.{Blocks}
 use Rattle.answers.specs.Outcome.{refused, gives}
 use Rattle.hashing.specs.Hashing.{h}
-use Rattle.challenge.specs.Blocks.{chain, stream, valuesIn, tooFew}
+use Rattle.hashing.proofs.HashingLaws.{length-h}
+use Rattle.challenge.specs.Blocks.{chain, stream, streamValues, tooFew}
 use Rattle.challenge.specs.ChallengeCall.{challenged}
 use Rattle.challenge.specs.Limits.{OneBlockIsTooFew, LimitSettlesBlocks, LargerLimitGivesSame}
 use Rattle.challenge.proofs.PairsLaws.{values-most}
-use Rattle.challenge.proofs.BlocksLaws.{length-h, enough-after, first-after}
+use Rattle.challenge.proofs.BlocksLaws.{enough-after, first-after}
 use Rattle.challenge.proofs.ChallengeCallLaws.{challenged-no-set, challenged-limit, challenged-room, challenged-few, challenged-given}
 
 -- ---- one block
 
-one-few : (input : Bytes) → tooFew l1 (h l1 1 input) 1 ≡ true
-unfolding tooFew valuesIn stream joined chain
+pub one-few : (input : Bytes) → tooFew l1 (h l1 1 input) 1 ≡ true
+unfolding tooFew streamValues stream joined chain
 one-few input =
     let b = h l1 1 input in
-    lt-ltb (length (valuesIn l1 b 1)) 219 (omega (arith, values-most (stream l1 b 1), length-h is-l1 1 input))
+    lt-ltb (length (streamValues l1 b 1)) 219 (omega (arith, values-most (stream l1 b 1), length-h is-l1 1 input))
 
 pub one-block-is-too-few : OneBlockIsTooFew
 unfolding OneBlockIsTooFew limitOut

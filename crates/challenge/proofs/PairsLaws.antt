@@ -14,7 +14,7 @@ use Rattle.slices.proofs.SliceLaws.{joined-cong, joined-add}
 use Rattle.bits.specs.Bytes.{bit, bitsOf, digit, value}
 use Rattle.bits.proofs.NumberLaws.{bit-shr, bit-low0, digit-odd, value-cong}
 use Rattle.bits.proofs.BytesLaws.{at-bit}
-use Rattle.challenge.specs.Pairs.{pair, valueOf, valuesTo, values}
+use Rattle.challenge.specs.Pairs.{pair, valueOf, valuesTo, allValues}
 
 -- ---- one pair
 
@@ -62,8 +62,8 @@ unfolding valuesTo
 values-front l m k h = joined-cong k _ _ (λ j n. ap valueOf (pair-front l m j (omega arith)))
 
 -- first the values of the one, then of the other
-pub values-append : (l m : Bytes) → values (l ++ m) ≡ values l ++ values m
-unfolding values valuesTo
+pub values-append : (l m : Bytes) → allValues (l ++ m) ≡ allValues l ++ allValues m
+unfolding allValues valuesTo
 values-append l m =
     let e : 4 * length (l ++ m) ≡ 4 * length l + 4 * length m = omega (arith, length-append l m) in
     ap (λ (n : ℕ). joined n (λ j. valueOf (pair (l ++ m) j))) e
@@ -104,8 +104,8 @@ values-to-most (suc k) l =
     omega (arith, length-append (valuesTo k l) (valueOf (pair l k)), values-to-most k l, one-most (ltb (pair l k) 3) (pair l k))
 
 -- at most one value a pair
-pub values-most : (l : Bytes) → length (values l) ≤ 4 * length l
-unfolding values
+pub values-most : (l : Bytes) → length (allValues l) ≤ 4 * length l
+unfolding allValues
 values-most l = values-to-most (4 * length l) l
 
 one-small : (b : Bool) (v i : ℕ) → ltb v 3 ≡ b → getD (cond b (v ∷ []) []) i 0 < 3
@@ -125,6 +125,6 @@ values-to-small (suc k) l i =
     append-small (valuesTo k l) (valueOf (pair l k)) (values-to-small k l) (λ j. one-small (ltb (pair l k) 3) (pair l k) j refl) i
 
 -- a value is 0, 1 or 2
-pub values-small : (l : Bytes) (i : ℕ) → getD (values l) i 0 < 3
-unfolding values
+pub values-small : (l : Bytes) (i : ℕ) → getD (allValues l) i 0 < 3
+unfolding allValues
 values-small l i = values-to-small (4 * length l) l i

@@ -7,43 +7,39 @@ use lib.ListN.{length, take}
 use Rattle.slices.specs.Slices.{Bytes, joined}
 use Rattle.sets.specs.declared.Set.{Set}
 use Rattle.hashing.specs.Hashing.{h}
-use Rattle.challenge.specs.Pairs.{values}
+use Rattle.challenge.specs.Pairs.{allValues}
 
--- a first block b, and each later block H_1 of the block before
+-- block 1 is b, each later block is H_1 of the block before; here counted from 0
 unfoldable pub chain : Set → Bytes → ℕ → Bytes
-chain p b zero = b
-chain p b (suc k) = h p 1 (chain p b k)
-
--- block 1 is H_1 of the input, each later block is H_1 of the block before; here counted from 0
-unfoldable pub block : Set → Bytes → ℕ → Bytes
-block p x k = chain p (h p 1 x) k
+chain set b zero = b
+chain set b (suc k) = h set 1 (chain set b k)
 
 -- n blocks, the first of them b, one after the other
 unfoldable pub stream : Set → Bytes → ℕ → Bytes
-stream p b n = joined n (chain p b)
+stream set b n = joined n (chain set b)
 
 -- the values of n blocks, the first of them b
-unfoldable pub valuesIn : Set → Bytes → ℕ → Bytes
-valuesIn p b n = values (stream p b n)
+unfoldable pub streamValues : Set → Bytes → ℕ → Bytes
+streamValues set b n = allValues (stream set b n)
 
 -- 8: fewer than T values in n blocks
 unfoldable pub tooFew : Set → Bytes → ℕ → Bool
-tooFew p b n = ltb (length (valuesIn p b n)) (p .t)
+tooFew set b n = ltb (length (streamValues set b n)) (set .t)
 
 -- reading stops at the very pair that fills place T: the first T values of n blocks
 unfoldable pub firstValues : Set → Bytes → ℕ → Bytes
-firstValues p b n = take (p .t) (valuesIn p b n)
+firstValues set b n = take (set .t) (streamValues set b n)
 
 -- how many blocks it takes to fill place T, where n blocks do; else n
 unfoldable pub used : Set → Bytes → ℕ → ℕ
-used p b zero = zero
-used p b (suc n) = cond (tooFew p b n) (suc n) (used p b n)
+used set b zero = zero
+used set b (suc n) = cond (tooFew set b n) (suc n) (used set b n)
 
 -- k blocks give T values, and fewer blocks do not
-pub record Fewest (p : Set) (b : Bytes) (k : ℕ) : Type 0 where
-  pub enough : tooFew p b k ≡ false
-  pub fewer : (i : ℕ) → i < k → tooFew p b i ≡ true
+pub record Fewest (set : Set) (b : Bytes) (k : ℕ) : Type 0 where
+  pub enough : tooFew set b k ≡ false
+  pub fewer : (i : ℕ) → i < k → tooFew set b i ≡ true
 
 -- where n blocks give T values, those used are the fewest that do
 unfoldable pub UsedAreFewest : Type 0
-UsedAreFewest = (p : Set) (b : Bytes) (n : ℕ) → tooFew p b n ≡ false → (used p b n ≤ n) × Fewest p b (used p b n)
+UsedAreFewest = (set : Set) (b : Bytes) (n : ℕ) → tooFew set b n ≡ false → (used set b n ≤ n) × Fewest set b (used set b n)

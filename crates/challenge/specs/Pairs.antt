@@ -21,5 +21,5 @@ unfoldable pub valuesTo : ℕ → Bytes → Bytes
 valuesTo k l = joined k (λ j. valueOf (pair l j))
 
 -- what all pairs give
-unfoldable pub values : Bytes → Bytes
-values l = valuesTo (4 * length l) l
+unfoldable pub allValues : Bytes → Bytes
+allValues l = valuesTo (4 * length l) l

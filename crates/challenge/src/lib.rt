@@ -4,13 +4,12 @@ ghost use mathlib.Core.List.{_∷_};
 ghost use Prim.Native.Nat.{_*_, _≤_, _<_};
 ghost use lib.ListN.{length, take};
 ghost use Rattle.slices.specs.Slices.{Bytes};
-ghost use Rattle.sets.specs.Sets.{IsSet, numbered};
-ghost use Rattle.answers.specs.Outcome.{Promise};
+ghost use Rattle.sets.specs.Sets.{IsSet};
 ghost use Rattle.shake.specs.Sponge.{started, absorbed, Taking};
 ghost use Rattle.hashing.specs.Hashing.{h};
 ghost use Rattle.challenge.specs.Pairs.{pair};
 ghost use Rattle.challenge.specs.Filling.{Fills};
-ghost use Rattle.challenge.specs.ChallengeCall.{challenged};
+ghost use Rattle.challenge.specs.ChallengeCall.{ChallengePromise};
 use answers::Refusal;
 use sets::Chosen;
 use sets::Set;
@@ -80,7 +79,7 @@ pub fn fill(p: Set, first: [u8; 64], limit: u64, out: &mut [u8]) -> Filled
 
 // The challenge call. Refusal 8 keeps the output, so the values go into an array first.
 pub fn challenge(set: u64, input: &[u8], limit: u64, output: &mut [u8]) -> u64
-    ensures { λ r. ⌜ Promise (challenged (numbered set) (now (input .entry)) limit (length (now (output .entry)))) (now (output .entry)) r (now (output .exit)) ⌝ }
+    ensures { λ r. ⌜ ChallengePromise set (now (input .entry)) limit (now (output .entry)) r (now (output .exit)) ⌝ }
 {
     let chosen = Set::numbered(set);
     let Chosen::Known(p) = chosen else {

@@ -46,14 +46,14 @@ placed t = inThree (t .c) (t .b) (t .a)
 unfoldable pub sboxes : ℕ → Bits → Bits
 sboxes s x i = cond (ltb i (3 * s)) (placed (sbox (threeAt x (3 * (i / 3)))) (i % 3)) (x i)
 
-module _ (C : Cipher) (key : Bits) where
+module _ (L : Cipher) (key : Bits) where
   -- state = Kmatrix[0]·key XOR p
   unfoldable pub start : Bits → Bits
-  start p = product (C .n) (C .Kmatrix 0) key ⊕ p
+  start p = product (L .n) (L .Kmatrix 0) key ⊕ p
 
   -- round i+1: S-boxes, Lmatrix[i], roundconstant[i], and Kmatrix[i+1]·key
   unfoldable pub step : ℕ → Bits → Bits
-  step i x = product (C .n) (C .Lmatrix i) (sboxes (C .s) x) ⊕ C .roundconstant i ⊕ product (C .n) (C .Kmatrix (i + 1)) key
+  step i x = product (L .n) (L .Lmatrix i) (sboxes (L .s) x) ⊕ L .roundconstant i ⊕ product (L .n) (L .Kmatrix (i + 1)) key
 
   -- the state after i rounds
   unfoldable pub stateAfter : Bits → ℕ → Bits
@@ -62,4 +62,4 @@ module _ (C : Cipher) (key : Bits) where
 
   -- the encryption of p: the state after r rounds
   unfoldable pub encryption : Bits → Bits
-  encryption p = stateAfter p (C .r)
+  encryption p = stateAfter p (L .r)

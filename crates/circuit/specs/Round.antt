@@ -22,6 +22,12 @@ next party2 = party0
 abbrev pub third : Party → Party
 third e = next (next e)
 
+-- one of three, by the party
+abbrev pub byParty : {A : Type 0} → (a b c : A) → Party → A
+byParty a b c party0 = a
+byParty a b c party1 = b
+byParty a b c party2 = c
+
 -- ---- gates
 
 -- c_i = a_i b_k XOR a_k b_i XOR a_i b_i XOR r_i XOR r_k
@@ -32,10 +38,14 @@ gate ai ak bi bk ri rk = (ai && bk) ⊻ (ak && bi) ⊻ (ai && bi) ⊻ ri ⊻ rk
 unfoldable pub gates : (x x′ r r′ : Bits) → Bits
 gates x x′ r r′ g = gate (leftFactor x g) (leftFactor x′ g) (rightFactor x g) (rightFactor x′ g) (r g) (r′ g)
 
+-- the row of gates of party i, with k = i+1 mod 3, from the parties' states x and tape bits r
+abbrev pub gatesOf : (x r : Party → Bits) → Party → Bits
+gatesOf x r i = gates (x i) (x (next i)) (r i) (r (next i))
+
 -- LowMC's round i on a share: S-boxes by the row t of the transcript, Lmatrix[i], the share c of roundconstant[i], and
 -- Kmatrix[i+1] times the input share
 unfoldable pub advance : Cipher → ℕ → (share c state t : Bits) → Bits
-advance C i share c state t = product (C .n) (C .Lmatrix i) (sboxesBy (C .s) state t) ⊕ c ⊕ product (C .n) (C .Kmatrix (i + 1)) share
+advance L i share c state t = product (L .n) (L .Lmatrix i) (sboxesBy (L .s) state t) ⊕ c ⊕ product (L .n) (L .Kmatrix (i + 1)) share
 
 -- ---- the signer's round, from the input shares and the tapes' bits for the gates
 
@@ -45,21 +55,20 @@ intoShare party0 c = c
 intoShare party1 c = zeros
 intoShare party2 c = zeros
 
-module _ (C : Cipher) (p : Bits) (share : Party → Bits) (tape : Party → Rows) where
+module _ (L : Cipher) (p : Bits) (share : Party → Bits) (tape : Party → Rows) where
   -- party j's share of the state after i rounds of LowMC
   unfoldable pub stateShare : ℕ → Party → Bits
-  stateShare zero j = start C (share j) (intoShare j p)
+  stateShare zero j = start L (share j) (intoShare j p)
   stateShare (suc i) j =
-      advance C i (share j) (intoShare j (C .roundconstant i)) (stateShare i j)
-      (gates (stateShare i j) (stateShare i (next j)) (tape j i) (tape (next j) i))
+      advance L i (share j) (intoShare j (L .roundconstant i)) (stateShare i j) (gatesOf (stateShare i) (λ k. tape k i) j)
 
   -- each gate's bit is appended to that party's transcript
   unfoldable pub transcript : Party → Rows
-  transcript j i = gates (stateShare i j) (stateShare i (next j)) (tape j i) (tape (next j) i)
+  transcript j i = gatesOf (stateShare i) (λ k. tape k i) j
 
   -- party j's output share
   unfoldable pub outputShare : Party → Bits
-  outputShare j = stateShare (C .r) j
+  outputShare j = stateShare (L .r) j
 
 -- ---- the verifier's recomputation under challenge e
 
@@ -83,17 +92,17 @@ pub record Opening : Type 0 where
   pub tape₂ : Rows
   pub transcript₂ : Rows
 
-module _ (C : Cipher) (p : Bits) (e : Party) (o : Opening) where
+module _ (L : Cipher) (p : Bits) (e : Party) (o : Opening) where
   -- the share of party e+1, whose transcript is taken from the signature
   unfoldable pub state₂ : ℕ → Bits
-  state₂ zero = start C (o .share₂) (intoSecond e p)
-  state₂ (suc i) = advance C i (o .share₂) (intoSecond e (C .roundconstant i)) (state₂ i) (o .transcript₂ i)
+  state₂ zero = start L (o .share₂) (intoSecond e p)
+  state₂ (suc i) = advance L i (o .share₂) (intoSecond e (L .roundconstant i)) (state₂ i) (o .transcript₂ i)
 
   -- the share of party e, whose gates are recomputed
   unfoldable pub state₁ : ℕ → Bits
-  state₁ zero = start C (o .share₁) (intoFirst e p)
+  state₁ zero = start L (o .share₁) (intoFirst e p)
   state₁ (suc i) =
-      advance C i (o .share₁) (intoFirst e (C .roundconstant i)) (state₁ i)
+      advance L i (o .share₁) (intoFirst e (L .roundconstant i)) (state₁ i)
       (gates (state₁ i) (state₂ i) (o .tape₁ i) (o .tape₂ i))
 
   -- the verifier recomputes the transcript of party e
@@ -102,12 +111,12 @@ module _ (C : Cipher) (p : Bits) (e : Party) (o : Opening) where
 
   -- the output share of party e
   unfoldable pub output₁ : Bits
-  output₁ = state₁ (C .r)
+  output₁ = state₁ (L .r)
 
   -- the output share of party e+1
   unfoldable pub output₂ : Bits
-  output₂ = state₂ (C .r)
+  output₂ = state₂ (L .r)
 
   -- the third output share is the XOR of two and C
-  unfoldable pub output₃ : (c : Bits) → Bits
-  output₃ c = output₁ ⊕ output₂ ⊕ c
+  unfoldable pub output₃ : (C : Bits) → Bits
+  output₃ C = output₁ ⊕ output₂ ⊕ C

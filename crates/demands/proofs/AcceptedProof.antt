@@ -42,14 +42,14 @@ larger-legal limit larger e m l =
     let some = neither (eqb limit 0) (ltb 64 limit) e .0 in
     rw (ne-eqb larger 0 (λ z. eqb-false limit 0 some (omega arith)), le-ltb 64 larger l)
 
-module _ (p : Set) (g : sign.Given) (known : numbered (g .set) ≡ Known p) (s : Passed p g)
+module _ (p : Set) (g : sign.Given) (known : numbered (g .setNumber) ≡ Known p) (s : Passed p g)
     (limit : ℕ) (room : Bytes) (n : Enough g limit room) where
   abbrev es : Bytes
   es = firstValues p (sign.firstBlock p g) (g .limit)
 
   again-read : Reread p (sign.cipher p g) (g .secret) (g .public) (g .seeds) (g .message) es
   again-read =
-      reread (known-set (g .set) p known) (g .keys) (g .layers) (g .constants) (g .secret) (g .public) (g .seeds) (g .message) es (s .pair)
+      reread (known-set (g .setNumber) p known) (g .keys) (g .layers) (g .constants) (g .secret) (g .public) (g .seeds) (g .message) es (s .pair)
       (s .seeds) (length-first p (sign.firstBlock p g) (g .limit) (s .enough)) (first-small p (sign.firstBlock p g) (g .limit))
 
   abbrev signature : Bytes

@@ -9,7 +9,7 @@ use Rattle.slices.specs.Slices.{Bytes}
 use Rattle.sets.specs.declared.Set.{Set}
 use Rattle.sets.specs.Sets.{IsSet}
 use Rattle.hashing.specs.Hashing.{h, view, commitment}
-use Rattle.challenge.proofs.BlocksLaws.{length-h}
+use Rattle.hashing.proofs.HashingLaws.{length-h}
 use Rattle.demands.specs.Hashed.{Hashed, hashedFor, Collision}
 use Rattle.demands.proofs.JoinedLaws.{front, back}
 

@@ -1,46 +1,38 @@
 -- Demand 1: each promise is an equation for the answer and one for every slice that the call may write.
-use Rattle.answers.specs.Outcome.{Same}
+use Rattle.answers.specs.Outcome.{SameEnd}
 use Rattle.answers.proofs.OutcomeLaws.{same}
-use Rattle.signer.specs.Sign.{SameSigned}
-use Rattle.verifier.specs.Verify.{SameVerified}
+use Rattle.signer.proofs.SignLaws.{same-signed}
+use Rattle.verifier.proofs.VerifyLaws.{same-verified}
 use Rattle.demands.specs.Determined.{HashIsSettled, EncryptIsSettled, PublicKeyIsSettled, SeedsIsSettled}
 use Rattle.demands.specs.Determined.{ChallengeIsSettled, ReadIsSettled, WriteIsSettled, EveryCallIsSettled}
 
 pub hash-is-settled : HashIsSettled
-unfolding HashIsSettled Same
-hash-is-settled set input output = same _ output
+unfolding HashIsSettled SameEnd
+hash-is-settled k input before = same _ before
 
 pub encrypt-is-settled : EncryptIsSettled
-unfolding EncryptIsSettled Same
-encrypt-is-settled set keys layers constants secret block output = same _ output
+unfolding EncryptIsSettled SameEnd
+encrypt-is-settled k keys layers constants secret p before = same _ before
 
 pub public-key-is-settled : PublicKeyIsSettled
-unfolding PublicKeyIsSettled Same
-public-key-is-settled set keys layers constants secret block output = same _ output
+unfolding PublicKeyIsSettled SameEnd
+public-key-is-settled k keys layers constants secret p before = same _ before
 
 pub seeds-is-settled : SeedsIsSettled
-unfolding SeedsIsSettled Same
-seeds-is-settled set secret public message output = same _ output
+unfolding SeedsIsSettled SameEnd
+seeds-is-settled k secret public message before = same _ before
 
 pub challenge-is-settled : ChallengeIsSettled
-unfolding ChallengeIsSettled Same
-challenge-is-settled set input limit output = same _ output
+unfolding ChallengeIsSettled SameEnd
+challenge-is-settled k input limit before = same _ before
 
 pub read-is-settled : ReadIsSettled
-unfolding ReadIsSettled Same
-read-is-settled set signature output = same _ output
+unfolding ReadIsSettled SameEnd
+read-is-settled k signature before = same _ before
 
 pub write-is-settled : WriteIsSettled
-unfolding WriteIsSettled Same
-write-is-settled set unpacked output = same _ output
-
-pub sign-is-settled : SameSigned
-unfolding SameSigned
-sign-is-settled g m n room room′ output output′ a b = (cc, (cc, cc))
-
-pub verify-is-settled : SameVerified
-unfolding SameVerified
-verify-is-settled g m n room room′ a b = (cc, cc)
+unfolding WriteIsSettled SameEnd
+write-is-settled k unpacked before = same _ before
 
 pub every-call-is-settled : EveryCallIsSettled
 every-call-is-settled =
@@ -52,6 +44,6 @@ every-call-is-settled =
       challenge = challenge-is-settled;
       read = read-is-settled;
       write = write-is-settled;
-      sign = sign-is-settled;
-      verify = verify-is-settled;
+      sign = same-signed;
+      verify = same-verified;
     }

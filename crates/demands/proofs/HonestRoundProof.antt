@@ -11,16 +11,14 @@ use Rattle.sets.specs.Sets.{IsSet}
 use Rattle.sets.specs.Lengths.{w, seedWidth}
 use Rattle.circuit.specs.Lowmc.{Cipher}
 use Rattle.circuit.specs.Round.{Party, party0, party1, party2, next}
-use Rattle.circuit.specs.Tapes.{number}
+use Rattle.circuit.specs.Tapes.{partyNumber}
 use Rattle.lowmc.specs.Lent.{cipherOf}
-use Rattle.lowmc.specs.Encrypted.{encrypted}
+use Rattle.lowmc.specs.Encrypted.{encrypted, ciphertext, plaintext}
 use Rattle.hashing.specs.Hashing.{commitment}
-use Rattle.challenge.proofs.BlocksLaws.{length-h}
-use Rattle.shape.specs.Form.{Fit}
+use Rattle.hashing.proofs.HashingLaws.{length-h}
 use Rattle.shape.proofs.PaddingLaws.{packed-zeros}
-use Rattle.shape.proofs.ShownLaws.{fit-sized}
+use Rattle.shape.proofs.ShownLaws.{Fit, fit-sized}
 use Rattle.views.specs.Signed.{shares, transcripts, tapes, commitments, shownShare, shown}
-use Rattle.views.specs.Input.{ciphertext, plaintext}
 use Rattle.views.specs.Complete.{Regained, RoundComplete}
 use Rattle.views.proofs.CompleteProof.{round-complete}
 use Rattle.demands.specs.Sound.{HonestRound}
@@ -42,12 +40,12 @@ module _ {p : Set} (q : IsSet p) (keys layers constants salt : Bytes) (t : ℕ) 
   shown-share-packed party1 = share-packed party2
   shown-share-packed party2 = share-packed party2
 
-  no-share : (e : Party) → number e ≡ 0 → shownShare p C salt t seeds sk block e ≡ replicate (w p) 0
+  no-share : (e : Party) → partyNumber e ≡ 0 → shownShare p C salt t seeds sk block e ≡ replicate (w p) 0
   no-share party0 z = refl
   no-share party1 z = absurd (omega arith)
   no-share party2 z = absurd (omega arith)
 
-  pub shown-fits : (e : Party) → Fit p (number e) (shown p C salt t seeds sk block e)
+  pub shown-fits : (e : Party) → Fit p (partyNumber e) (shown p C salt t seeds sk block e)
   unfolding shown commitments commitment transcripts
   shown-fits e = record {
     commitment = length-h q 0 _;

@@ -10,24 +10,24 @@ use Rattle.slices.specs.Slices.{Bytes}
 use Rattle.slices.proofs.SliceLaws.{joined-cong}
 use Rattle.sets.specs.declared.Set.{Set}
 use Rattle.sets.specs.Sets.{IsSet}
-use Rattle.sets.specs.Lengths.{seedWidth, salt, seedsLength}
+use Rattle.sets.specs.Lengths.{seedWidth, saltLength, seedsLength}
 use Rattle.circuit.specs.Lowmc.{Cipher}
 use Rattle.circuit.specs.Round.{Party, party0, party1, party2}
-use Rattle.circuit.specs.Tapes.{number}
+use Rattle.circuit.specs.Tapes.{partyNumber}
 use Rattle.lowmc.specs.Lent.{cipherOf}
-use Rattle.lowmc.specs.Encrypted.{encrypted}
+use Rattle.lowmc.specs.Encrypted.{encrypted, ciphertext, plaintext}
 use Rattle.shape.specs.Header.{AreValues}
-use Rattle.shape.specs.Form.{Shown, Sized, Fit, form, valuesIn, saltIn, shownIn, formOf}
+use Rattle.shape.specs.Form.{Shown, Sized, form, valuesIn, saltIn, shownIn, formOf}
 use Rattle.shape.specs.Reading.{reading}
 use Rattle.shape.proofs.PartLaws.{length-part}
 use Rattle.shape.proofs.ReadingLaws.{given, sound}
 use Rattle.shape.proofs.RoundTripsProof.{form-whole}
-use Rattle.shape.proofs.ShownLaws.{fit-sized, length-formOf, values-of-formOf, salt-of-formOf, shown-in-formOf}
+use Rattle.shape.proofs.ShownLaws.{Fit, fit-sized, length-formOf, values-of-formOf, salt-of-formOf, shown-in-formOf}
 use Rattle.shape.proofs.FitLaws.{parts-read, parts-pass}
 use Rattle.views.specs.Parties.{partyOf, three}
 use Rattle.views.specs.Signed.{seedAt, saltAt}
 use Rattle.views.specs.Opened.{recomputedOutputs, recomputedCommitments}
-use Rattle.views.specs.Input.{ciphertext, plaintext, byRound, filling, challengeInput, signedOutputs, signedCommitments, signerFilling}
+use Rattle.views.specs.Input.{byRound, filling, challengeInput, signedOutputs, signedCommitments, signerFilling}
 use Rattle.views.specs.Input.{openedOutputs, openedCommitments, verifierFilling}
 use Rattle.views.specs.Complete.{Regained}
 use Rattle.views.proofs.PartiesLaws.{number-of}
@@ -35,7 +35,7 @@ use Rattle.signer.specs.Sign.{shownAt, signatureFor}
 use Rattle.demands.specs.Sound.{ReadRuns, Reread, HonestRuns}
 use Rattle.demands.proofs.HonestRoundProof.{shown-fits, regained}
 
-number-small : (j : Party) → number j ≤ 2
+number-small : (j : Party) → partyNumber j ≤ 2
 number-small party0 = omega arith
 number-small party1 = omega arith
 number-small party2 = omega arith
@@ -56,12 +56,12 @@ read-runs p C public message s c = record { exact = form-whole p s (sound p s c)
 -- ---- lent seeds
 
 module _ (p : Set) (seeds : Bytes) (l : length seeds ≡ seedsLength p) where
-  length-saltAt : length (saltAt p seeds) ≡ salt
+  length-saltAt : length (saltAt p seeds) ≡ saltLength
   length-saltAt = omega (arith, length-drop (3 * p .t * seedWidth p) seeds)
 
   length-seedAt : (t : ℕ) → t < p .t → (j : Party) → length (seedAt p seeds t j) ≡ seedWidth p
   length-seedAt t h j =
-      let k = 3 * t + number j in
+      let k = 3 * t + partyNumber j in
       let m : suc k * seedWidth p ≤ 3 * p .t * seedWidth p = mul-le-mul-right (seedWidth p) (omega (arith, number-small j)) in
       length-part seeds (k * seedWidth p) (seedWidth p) (omega (arith, suc-mul k (seedWidth p)))
 
@@ -88,7 +88,7 @@ module _ {p : Set} (q : IsSet p) (keys layers constants secret public seeds mess
   abbrev x : Bytes
   x = formOf p es (saltAt p seeds) us
 
-  ls : length (saltAt p seeds) ≡ salt
+  ls : length (saltAt p seeds) ≡ saltLength
   ls = length-saltAt p seeds l
 
   values-are : valuesIn p x ≡ es

@@ -10,4 +10,11 @@ pub mod SigningLaws
 pub mod AcceptedProof
 pub mod ReadAndWriteProof
 pub mod DeterminedProof
+pub mod ExportedProof
 pub mod TableProof
+pub mod FirstLaws
+pub mod SignHalves
+pub mod OwnInputsProof
+pub mod OutcomeHalves
+pub mod HalvesProof
+pub mod CallExamplesProof

@@ -13,15 +13,15 @@ use Rattle.sets.specs.declared.Chosen.{Chosen}
 use Rattle.sets.specs.declared.Chosen.the-variants.{Known, Unknown}
 use Rattle.sets.specs.Sets.{numbered}
 use Rattle.sets.specs.Lengths.{longest, unpackedLength}
+use Rattle.answers.specs.declared.Refusal.{Refusal}
 use Rattle.answers.specs.declared.Refusal.the-variants.{Fine, Room}
-use Rattle.answers.specs.Answers.{number, fine, Check, first, answer}
-use Rattle.answers.specs.Outcome.{Outcome, refused, gives, unless, withSet, answerOf, leftBy, Promise}
-use Rattle.answers.proofs.AnswersLaws.{fine-is, skip}
-use Rattle.answers.proofs.OutcomeLaws.{set-known, unless-given}
+use Rattle.answers.specs.Answers.{number, fine, Check, when, first, answer}
+use Rattle.answers.specs.Outcome.{Outcome, refused, gives, unless, behind, withSet, answerOf, leftBy, Promise}
+use Rattle.answers.proofs.AnswersLaws.{fine-is}
+use Rattle.answers.proofs.OutcomeLaws.{set-known, unless-given, behind-passes}
 use Rattle.shape.specs.Form.{form, signature}
-use Rattle.shape.specs.Reading.{readChecks, writeChecks, reading, writing, readInto, writeInto, read, write}
+use Rattle.shape.specs.Reading.{reading, writing, readInto, writeInto, read, write}
 use Rattle.shape.specs.RoundTrips.{ReadIsWritten, WrittenIsRead}
-use Rattle.shape.proofs.ReadingLaws.{passed, given, unless-fine}
 use Rattle.shape.proofs.RoundTripsProof.{read-is-written, written-is-read}
 use Rattle.demands.specs.ReadAndWrite.{ReadThenWritten, WrittenThenRead}
 
@@ -40,13 +40,20 @@ module _ (o : Outcome) (vs before : Bytes) (n : ℕ) (after : Bytes) (g : o ≡ 
   gave-bytes = let (a, b) = gave in rw b (take-at vs (drop (length vs) before) n (sym a))
 
 -- where a length alone is answered, the checks pass
-unless-alone : (ks : List Check) (vs before : Bytes) (n : ℕ) (after : Bytes) → Promise (unless ks vs) before n after → n < 2 ^ 32 → first ks ≡ Fine
+pub unless-alone : (ks : List Check) (vs before : Bytes) (n : ℕ) (after : Bytes) → Promise (unless ks vs) before n after → n < 2 ^ 32 → first ks ≡ Fine
 unfolding unless answerOf
 unless-alone ks vs before n after k l = go (fine (first ks)) refl (k .answered)
   where
     go : (b : Bool) → fine (first ks) ≡ b → n ≡ answerOf (cond b (gives vs) (refused (first ks))) → first ks ≡ Fine
     go true f a = fine-is (first ks) f
     go false f a = absurd (eqb-false (number (first ks)) 0 f (omega arith))
+
+-- and a check in front passes
+behind-alone : (b : Bool) (r : Refusal) (o : Outcome) (before : Bytes) (n : ℕ) (after : Bytes) → fine r ≡ false
+    → Promise (behind (when b r) o) before n after → n < 2 ^ 32 → Promise o before n after
+unfolding behind answerOf
+behind-alone true r o before n after f k l = absurd (eqb-false (number r) 0 f (omega (arith, k .answered)))
+behind-alone false r o before n after f k l = k
 
 -- and there is a set
 pub record Chose (c : Chosen) (f : Set → Outcome) (before : Bytes) (n : ℕ) (after : Bytes) : Type 0 where
@@ -64,30 +71,28 @@ chose (Known p) f before n after k l = record { p = p; known = refl; promise = k
 
 module _ (c : Chosen) (p : Set) (known : c ≡ Known p) (s : Bytes) (n : ℕ) where
   read-given : (x : Bytes) → unpackedLength p ≤ n → reading p s ≡ gives x → read c s n ≡ gives x
-  unfolding read readInto reading
-  read-given x l e =
-      let (f, g) = given _ _ _ e in
-      set-known c _ p known ∙ unless-fine _ _ x (skip _ Room (readChecks p s) (le-ltb n (unpackedLength p) l) ∙ f) g
+  unfolding read readInto
+  read-given x l e = set-known c _ p known ∙ (behind-passes _ Room (reading p s) (le-ltb n (unpackedLength p) l) ∙ e)
 
   write-given : (x : Bytes) → longest p ≤ n → writing p s ≡ gives x → write c s n ≡ gives x
-  unfolding write writeInto writing
-  write-given x l e =
-      let (f, g) = given _ _ _ e in
-      set-known c _ p known ∙ unless-fine _ _ x (skip _ Room (writeChecks p s) (le-ltb n (longest p) l) ∙ f) g
+  unfolding write writeInto
+  write-given x l e = set-known c _ p known ∙ (behind-passes _ Room (writing p s) (le-ltb n (longest p) l) ∙ e)
 
 -- what a call has left where it answers a length alone
 module _ (p : Set) (s before : Bytes) (n : ℕ) (after : Bytes) (l : n < 2 ^ 32) where
   read-left : Promise (readInto p s (length before)) before n after → (reading p s ≡ gives (form p s)) × (take n after ≡ form p s)
   unfolding readInto reading
   read-left k =
-      let a = unless-alone _ _ before n after k l in
-      (unless-given _ _ _ (passed _ Room (readChecks p s) refl a .1) refl, gave-bytes _ (form p s) before n after (unless-given _ _ _ a refl) k)
+      let h = behind-alone _ Room (reading p s) before n after refl k l in
+      let e = unless-given _ _ _ (unless-alone _ _ before n after h l) refl in
+      (e, gave-bytes _ (form p s) before n after e h)
 
   write-left : Promise (writeInto p s (length before)) before n after → (writing p s ≡ gives (signature p s)) × (take n after ≡ signature p s)
   unfolding writeInto writing
   write-left k =
-      let a = unless-alone _ _ before n after k l in
-      (unless-given _ _ _ (passed _ Room (writeChecks p s) refl a .1) refl, gave-bytes _ (signature p s) before n after (unless-given _ _ _ a refl) k)
+      let h = behind-alone _ Room (writing p s) before n after refl k l in
+      let e = unless-given _ _ _ (unless-alone _ _ before n after h l) refl in
+      (e, gave-bytes _ (signature p s) before n after e h)
 
 pub read-then-written : ReadThenWritten
 unfolding ReadThenWritten ReadIsWritten read

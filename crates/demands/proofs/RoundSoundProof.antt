@@ -19,13 +19,12 @@ use Rattle.circuit.specs.Tapes.{gateBits, tapeRows}
 use Rattle.circuit.proofs.LowmcLaws.{encryption-cong}
 use Rattle.circuit.proofs.OpeningLaws.{openings-yield-key}
 use Rattle.lowmc.specs.Lent.{cipherOf}
-use Rattle.lowmc.specs.Encrypted.{encrypted}
+use Rattle.lowmc.specs.Encrypted.{encrypted, ciphertext, plaintext}
 use Rattle.shape.specs.Form.{Shown}
 use Rattle.shape.proofs.PaddingLaws.{padded-whole, padded-packed, bytes-part}
 use Rattle.shape.proofs.SetFacts.{shares-whole}
 use Rattle.views.specs.Signed.{tapeOf}
 use Rattle.views.specs.Opened.{share₁, share₂, opening, recomputedTranscript, recomputedOutputs, recomputedCommitments}
-use Rattle.views.specs.Input.{ciphertext, plaintext}
 use Rattle.views.proofs.PartiesLaws.{at-first, at-second, at-third}
 use Rattle.views.proofs.BytesOfRows.{rows-of-bytes}
 use Rattle.demands.specs.Hashed.{Hashed, hashedBy, hashedByThree}

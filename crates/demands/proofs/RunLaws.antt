@@ -6,7 +6,7 @@ use lib.ListN.{length, length-append}
 use Rattle.slices.specs.Slices.{Bytes}
 use Rattle.sets.specs.declared.Set.{Set}
 use Rattle.sets.specs.Sets.{IsSet}
-use Rattle.sets.specs.Lengths.{w, seedWidth, transcript, salt, unpackedLength}
+use Rattle.sets.specs.Lengths.{w, seedWidth, transcriptLength, saltLength, unpackedLength}
 use Rattle.circuit.specs.Lowmc.{Cipher}
 use Rattle.circuit.specs.Round.{Party}
 use Rattle.shape.specs.Form.{Sized, saltIn, slotAt, shownIn}
@@ -17,8 +17,8 @@ use Rattle.room.proofs.LengthLaws.{recomputed-output, recomputed-commitment}
 use Rattle.demands.proofs.JoinedLaws.{front, back, Alike, length-byRound, same-byRound}
 
 module _ (p : Set) (x : Bytes) (h : length x ≡ unpackedLength p) where
-  length-salt : length (saltIn p x) ≡ salt
-  length-salt = length-part x (p .t) salt (omega arith)
+  length-salt : length (saltIn p x) ≡ saltLength
+  length-salt = length-part x (p .t) saltLength (omega arith)
 
   -- what a form shows of a round has its lengths
   pub sized-in : (k : ℕ) → k < p .t → Sized p (shownIn p x k)
@@ -26,12 +26,12 @@ module _ (p : Set) (x : Bytes) (h : length x ≡ unpackedLength p) where
   sized-in k l =
       let a = slotAt p k in
       let b = a + p .digest in
-      let c = b + transcript p in
+      let c = b + transcriptLength p in
       let d = c + seedWidth p in
       let i = slot-within p k l in
       record {
         commitment = length-part x a (p .digest) (omega arith);
-        transcript = length-part x b (transcript p) (omega arith);
+        transcript = length-part x b (transcriptLength p) (omega arith);
         seed1 = length-part x c (seedWidth p) (omega arith);
         seed2 = length-part x d (seedWidth p) (omega arith);
         share = length-part x (d + seedWidth p) (w p) (omega arith);

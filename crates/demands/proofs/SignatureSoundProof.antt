@@ -7,24 +7,25 @@ use Rattle.sets.specs.declared.Set.{Set}
 use Rattle.sets.specs.Sets.{IsSet}
 use Rattle.circuit.specs.Lowmc.{Cipher}
 use Rattle.circuit.specs.Round.{Party, party0, party1, party2}
-use Rattle.circuit.specs.Tapes.{number}
+use Rattle.circuit.specs.Tapes.{partyNumber}
 use Rattle.lowmc.specs.Lent.{cipherOf}
+use Rattle.lowmc.specs.Encrypted.{ciphertext, plaintext}
 use Rattle.shape.specs.Form.{valuesIn, saltIn, shownIn}
 use Rattle.views.specs.Parties.{partyOf}
 use Rattle.views.specs.Opened.{recomputedOutputs, recomputedCommitments}
-use Rattle.views.specs.Input.{ciphertext, plaintext, challengeInput, openedOutputs, openedCommitments, verifierFilling}
+use Rattle.views.specs.Input.{challengeInput, openedOutputs, openedCommitments, verifierFilling}
 use Rattle.demands.specs.Sound.{Openings, RoundSound, Run, SignatureSound}
 use Rattle.demands.proofs.RunLaws.{sized-in, salts-same, outputs-same, commitments-same}
 use Rattle.demands.proofs.RoundSoundProof.{round-sound}
 
-party-of-number : (e : Party) → partyOf (number e) ≡ e
+party-of-number : (e : Party) → partyOf (partyNumber e) ≡ e
 party-of-number party0 = refl
 party-of-number party1 = refl
 party-of-number party2 = refl
 
 module _ (p : Set) (q : IsSet p) (keys layers constants public message input : Bytes) (x : Party → Bytes)
     (run : (e : Party) → Run p (cipherOf p keys layers constants) public message input (x e)) (t : ℕ) (l : t < p .t)
-    (opened : (e : Party) → getD (valuesIn p (x e)) t 0 ≡ number e) where
+    (opened : (e : Party) → getD (valuesIn p (x e)) t 0 ≡ partyNumber e) where
   abbrev C : Cipher
   C = cipherOf p keys layers constants
 

@@ -20,9 +20,8 @@ use Rattle.answers.specs.Answers.{number, first, answer}
 use Rattle.answers.specs.Conditions.{other, tablesOther, keysOther, messageOut, limitOut, tooShort}
 use Rattle.answers.proofs.AnswersLaws.{fine-is, none-holds}
 use Rattle.answers.proofs.ConditionsLaws.{neither, same-length}
-use Rattle.lowmc.specs.Encrypted.{encrypted}
+use Rattle.lowmc.specs.Encrypted.{encrypted, ciphertext, plaintext}
 use Rattle.challenge.specs.Blocks.{tooFew}
-use Rattle.views.specs.Input.{ciphertext, plaintext}
 use Rattle.signer.specs.Sign.{Given, Signed, lengthChecks, checks, firstBlock, signatureOf, signatureBy, refusalFor, refusal, written}
 
 -- what the checks of signing leave
@@ -55,16 +54,16 @@ passed p g f =
 -- the set is known, and nothing is refused
 pub record Made (g : Given) : Type 0 where
   pub p : Set
-  pub known : numbered (g .set) ≡ Known p
+  pub known : numbered (g .setNumber) ≡ Known p
   pub none : first (checks p g) ≡ Fine
 
-chosen : (g : Given) (c : Chosen) → numbered (g .set) ≡ c → refusalFor c g ≡ Fine → Made g
+chosen : (g : Given) (c : Chosen) → numbered (g .setNumber) ≡ c → refusalFor c g ≡ Fine → Made g
 unfolding refusalFor
 chosen g Unknown e f = absurd (let z : _≡_ {A = ℕ} 1 0 = ap number f in omega arith)
 chosen g (Known p) e f = record { p = p; known = e; none = f }
 
 pub made : (g : Given) → refusal g ≡ Fine → Made g
-made g f = chosen g (numbered (g .set)) refl f
+made g f = chosen g (numbered (g .setNumber)) refl f
 
 -- the bytes that are answered are the signature
 pub answered-bytes : (g : Given) (n : ℕ) (room output : Bytes) → Signed g n room output → refusal g ≡ Fine → (m : Made g)

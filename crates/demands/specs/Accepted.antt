@@ -15,7 +15,7 @@ use Rattle.verifier.specs.Verify as verify
 abbrev pub again : sign.Given → (limit : ℕ) (room signature : Bytes) → verify.Given
 again g limit room signature =
     record {
-      set = g .set;
+      setNumber = g .setNumber;
       keys = g .keys;
       layers = g .layers;
       constants = g .constants;
@@ -30,17 +30,17 @@ again g limit room signature =
 pub record Enough (g : sign.Given) (limit : ℕ) (room : Bytes) : Type 0 where
   pub more : g .limit ≤ limit
   pub legal : limit ≤ 64
-  pub suffices : (p : Set) → numbered (g .set) ≡ Known p → roomLength p ≤ length room
+  pub suffices : (set : Set) → numbered (g .setNumber) ≡ Known set → roomLength set ≤ length room
 
 -- where signing refuses nothing, verifying refuses nothing: of the output, as many bytes as were answered
 unfoldable pub SignedIsAccepted : Type 0
 SignedIsAccepted =
-    (g : sign.Given) (number : ℕ) (room output : Bytes) → sign.Signed g number room output → sign.refusal g ≡ Fine
-    → (limit : ℕ) (other : Bytes) → Enough g limit other → verify.refusal (again g limit other (take number output)) ≡ Fine
+    (g : sign.Given) (back : ℕ) (room output : Bytes) → sign.Signed g back room output → sign.refusal g ≡ Fine
+    → (limit : ℕ) (other : Bytes) → Enough g limit other → verify.refusal (again g limit other (take back output)) ≡ Fine
 
 -- the same in the numbers that a host sees: signing answers a length alone, then verifying answers 0
 unfoldable pub VerifyingAnswersZero : Type 0
 VerifyingAnswersZero =
-    (g : sign.Given) (number : ℕ) (room output : Bytes) → sign.Signed g number room output → number < 2 ^ 32
+    (g : sign.Given) (back : ℕ) (room output : Bytes) → sign.Signed g back room output → back < 2 ^ 32
     → (limit : ℕ) (other : Bytes) → Enough g limit other
-    → (answer : ℕ) (left : Bytes) → verify.Verified (again g limit other (take number output)) answer left → answer ≡ 0
+    → (answer : ℕ) (left : Bytes) → verify.Verified (again g limit other (take back output)) answer left → answer ≡ 0

@@ -1,54 +1,49 @@
 -- Demand 1: the promise of each exported call settles its answer and what it leaves in every slice that it may write.
+-- That the exported functions ensure these promises is said in Exported.antt.
 use mathlib.Core.Path.{_≡_}
 use Prim.Native.Nat.{ℕ}
-use lib.ListN.{length}
 use Rattle.slices.specs.Slices.{Bytes}
-use Rattle.sets.specs.Sets.{numbered}
-use Rattle.answers.specs.Outcome.{Outcome, Promise}
-use Rattle.hashing.specs.HashCall.{hashed}
-use Rattle.hashing.specs.SeedsCall.{seeded}
-use Rattle.lowmc.specs.Calls.{encryptOutcome, publicKeyOutcome}
-use Rattle.challenge.specs.ChallengeCall.{challenged}
-use Rattle.shape.specs.Reading.{read, write}
+use Rattle.hashing.specs.HashCall.{HashPromise}
+use Rattle.hashing.specs.SeedsCall.{SeedsPromise}
+use Rattle.lowmc.specs.Calls.{EncryptPromise, PublicKeyPromise}
+use Rattle.challenge.specs.ChallengeCall.{ChallengePromise}
+use Rattle.shape.specs.Reading.{ReadPromise, WritePromise}
 use Rattle.signer.specs.Sign.{SameSigned}
 use Rattle.verifier.specs.Verify.{SameVerified}
 
--- where a call has this outcome, two ends that its promise allows, from what its output held before, are one
-abbrev pub OneEnd : Outcome → (before : Bytes) → Type 0
-OneEnd o before = (m n : ℕ) (after last : Bytes) → Promise o before m after → Promise o before n last → (m ≡ n) × (after ≡ last)
+-- two ends that a promise of an answer and an output allows are one
+abbrev pub OneEnd : (promise : (back : ℕ) (after : Bytes) → Type 0) → Type 0
+OneEnd promise = (m n : ℕ) (after last : Bytes) → promise m after → promise n last → (m ≡ n) × (after ≡ last)
 
 -- picnic_hash
 unfoldable pub HashIsSettled : Type 0
-HashIsSettled = (set : ℕ) (input output : Bytes) → OneEnd (hashed (numbered set) input (length output)) output
+HashIsSettled = (setNumber : ℕ) (input before : Bytes) → OneEnd (HashPromise setNumber input before)
 
 -- picnic_encrypt
 unfoldable pub EncryptIsSettled : Type 0
 EncryptIsSettled =
-    (set : ℕ) (keys layers constants secret block output : Bytes)
-    → OneEnd (encryptOutcome (numbered set) keys layers constants secret block (length output)) output
+    (setNumber : ℕ) (keys layers constants secret p before : Bytes) → OneEnd (EncryptPromise setNumber keys layers constants secret p before)
 
 -- picnic_public_key
 unfoldable pub PublicKeyIsSettled : Type 0
 PublicKeyIsSettled =
-    (set : ℕ) (keys layers constants secret block output : Bytes)
-    → OneEnd (publicKeyOutcome (numbered set) keys layers constants secret block (length output)) output
+    (setNumber : ℕ) (keys layers constants secret p before : Bytes) → OneEnd (PublicKeyPromise setNumber keys layers constants secret p before)
 
 -- picnic_seeds
 unfoldable pub SeedsIsSettled : Type 0
-SeedsIsSettled =
-    (set : ℕ) (secret public message output : Bytes) → OneEnd (seeded (numbered set) secret public message (length output)) output
+SeedsIsSettled = (setNumber : ℕ) (secret public message before : Bytes) → OneEnd (SeedsPromise setNumber secret public message before)
 
 -- picnic_challenge
 unfoldable pub ChallengeIsSettled : Type 0
-ChallengeIsSettled = (set : ℕ) (input : Bytes) (limit : ℕ) (output : Bytes) → OneEnd (challenged (numbered set) input limit (length output)) output
+ChallengeIsSettled = (setNumber : ℕ) (input : Bytes) (limit : ℕ) (before : Bytes) → OneEnd (ChallengePromise setNumber input limit before)
 
 -- picnic_read
 unfoldable pub ReadIsSettled : Type 0
-ReadIsSettled = (set : ℕ) (signature output : Bytes) → OneEnd (read (numbered set) signature (length output)) output
+ReadIsSettled = (setNumber : ℕ) (signature before : Bytes) → OneEnd (ReadPromise setNumber signature before)
 
 -- picnic_write
 unfoldable pub WriteIsSettled : Type 0
-WriteIsSettled = (set : ℕ) (unpacked output : Bytes) → OneEnd (write (numbered set) unpacked (length output)) output
+WriteIsSettled = (setNumber : ℕ) (unpacked before : Bytes) → OneEnd (WritePromise setNumber unpacked before)
 
 -- all nine calls
 pub record EveryCallIsSettled : Type 0 where

@@ -3,4 +3,8 @@ pub mod Sound
 pub mod Accepted
 pub mod ReadAndWrite
 pub mod Determined
+pub mod Exported
 pub mod Table
+pub mod OwnInputs
+pub mod Halves
+pub mod Examples

@@ -7,22 +7,21 @@ use Rattle.sets.specs.declared.Set.{Set}
 use Rattle.sets.specs.declared.Chosen.the-variants.{Known}
 use Rattle.sets.specs.Sets.{numbered}
 use Rattle.sets.specs.Lengths.{longest, unpackedLength}
-use Rattle.answers.specs.Outcome.{Promise}
-use Rattle.shape.specs.Reading.{read, write}
+use Rattle.shape.specs.Reading.{ReadPromise, WritePromise}
 use Rattle.shape.specs.RoundTrips.{AreBytes}
 
 -- reading answers a length alone: then writing what it left answers the signature's length and leaves the signature, at the
 -- start of any output that holds the longest
 unfoldable pub ReadThenWritten : Type 0
 ReadThenWritten =
-    (set : ℕ) (s before form : Bytes) (n : ℕ) → AreBytes s → Promise (read (numbered set) s (length before)) before n form → n < 2 ^ 32
-    → (output last : Bytes) (m : ℕ) → ((p : Set) → numbered set ≡ Known p → longest p ≤ length output)
-    → Promise (write (numbered set) (take n form) (length output)) output m last → (m ≡ length s) × (last ≡ over s output)
+    (setNumber : ℕ) (s before form : Bytes) (n : ℕ) → AreBytes s → ReadPromise setNumber s before n form → n < 2 ^ 32
+    → (output last : Bytes) (m : ℕ) → ((set : Set) → numbered setNumber ≡ Known set → longest set ≤ length output)
+    → WritePromise setNumber (take n form) output m last → (m ≡ length s) × (last ≡ over s output)
 
 -- writing answers a length alone: then reading what it left answers the form's length and leaves the form, at the start of any
 -- output that holds an unpacked form
 unfoldable pub WrittenThenRead : Type 0
 WrittenThenRead =
-    (set : ℕ) (x before signature : Bytes) (n : ℕ) → Promise (write (numbered set) x (length before)) before n signature → n < 2 ^ 32
-    → (output last : Bytes) (m : ℕ) → ((p : Set) → numbered set ≡ Known p → unpackedLength p ≤ length output)
-    → Promise (read (numbered set) (take n signature) (length output)) output m last → (m ≡ length x) × (last ≡ over x output)
+    (setNumber : ℕ) (x before signature : Bytes) (n : ℕ) → WritePromise setNumber x before n signature → n < 2 ^ 32
+    → (output last : Bytes) (m : ℕ) → ((set : Set) → numbered setNumber ≡ Known set → unpackedLength set ≤ length output)
+    → ReadPromise setNumber (take n signature) output m last → (m ≡ length x) × (last ≡ over x output)

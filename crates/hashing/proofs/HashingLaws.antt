@@ -9,12 +9,13 @@ use lib.Seq.{length-front, length-take-le, take-at}
 use Rattle.slices.specs.Slices.{Bytes, over}
 use Rattle.sets.specs.declared.Set.{Set}
 use Rattle.sets.specs.Sets.{IsSet}
+use Rattle.sets.specs.Lengths.{seedsLength}
 use Rattle.sets.proofs.Each.{each, most}
 use Rattle.shake.specs.declared.Sponge.{Sponge}
 use Rattle.shake.specs.Sponge.{started, absorbed, padded, given, Rate, AbsorbsInPieces, GivesShake}
-use Rattle.shake.proofs.SpongeLaws.{absorbs-in-pieces}
+use Rattle.shake.proofs.SpongeLaws.{absorbs-in-pieces, length-given}
 use Rattle.shake.proofs.ShakeLaws.{gives-shake}
-use Rattle.hashing.specs.Hashing.{h, kdf, le16, tapeInput}
+use Rattle.hashing.specs.Hashing.{h, kdf, le16, tapeInput, derivedSeeds}
 
 -- a set's rate is one of SHAKE's
 pub rated : {p : Set} → IsSet p → Rate (p .rate)
@@ -90,3 +91,21 @@ module _ (l v : Bytes) (n : ℕ) (h : n ≤ length l) (e : length v ≡ length (
 pub front-over : (l v vs : Bytes) (n : ℕ) → v ≡ vs → length v ≡ n → v ++ drop n l ≡ over vs l
 unfolding over
 front-over l v vs n e h = rw (← e, h)
+
+-- ---- lengths
+
+-- KDF gives as many bytes as are asked for
+pub length-kdf : {p : Set} → IsSet p → (x : Bytes) (n : ℕ) → length (kdf p x n) ≡ n
+unfolding kdf GivesShake
+length-kdf {p} q x n =
+    ap length (sym (gives-shake (p .rate) (rated q) x n)) ∙ length-given (padded (absorbed (started (p .rate)) x)) n
+
+-- H_i gives a digest
+pub length-h : {p : Set} → IsSet p → (i : ℕ) (x : Bytes) → length (h p i x) ≡ p .digest
+unfolding h kdf
+length-h {p} q i x = length-kdf q (i ∷ x) (p .digest)
+
+-- derived seeds have the length that signing asks for
+pub length-derived : {p : Set} → IsSet p → (secret message public : Bytes) → length (derivedSeeds p secret message public) ≡ seedsLength p
+unfolding derivedSeeds
+length-derived {p} q secret message public = length-kdf q _ (seedsLength p)

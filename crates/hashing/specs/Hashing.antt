@@ -8,11 +8,11 @@ use Rattle.shake.specs.Shake.{shake}
 
 -- H_i(x) hashes the byte i and then x, to one digest
 unfoldable pub h : Set → ℕ → Bytes → Bytes
-h p i x = shake (p .rate) (i ∷ x) (p .digest)
+h set i x = shake (set .rate) (i ∷ x) (set .digest)
 
 -- KDF is the set's SHAKE with no prefix
 unfoldable pub kdf : Set → Bytes → ℕ → Bytes
-kdf p x n = shake (p .rate) x n
+kdf set x n = shake (set .rate) x n
 
 -- integers beside seeds are 16-bit little endian
 unfoldable pub le16 : ℕ → Bytes
@@ -20,7 +20,7 @@ le16 v = v % 256 ∷ v / 256 % 256 ∷ []
 
 -- derived seeds: KDF(sk, M, pk, S), the whole seeds length
 unfoldable pub derivedSeeds : Set → (secret message public : Bytes) → Bytes
-derivedSeeds p secret message public = kdf p (secret ++ (message ++ (public ++ le16 (p .seed)))) (seedsLength p)
+derivedSeeds set secret message public = kdf set (secret ++ (message ++ (public ++ le16 (set .seed)))) (seedsLength set)
 
 -- what a tape is drawn from: the seed's digest, salt, t, j and the length in bytes
 unfoldable pub tapeInput : (digest salt : Bytes) (t j length : ℕ) → Bytes
@@ -28,12 +28,12 @@ tapeInput digest salt t j length = digest ++ (salt ++ (le16 t ++ (le16 j ++ le16
 
 -- tape of party j in round t: KDF(H_2(seed), salt, t, j, length)
 unfoldable pub tape : Set → (seed salt : Bytes) (t j length : ℕ) → Bytes
-tape p seed salt t j length = kdf p (tapeInput (h p 2 seed) salt t j length) length
+tape set seed salt t j length = kdf set (tapeInput (h set 2 seed) salt t j length) length
 
 -- what a commitment hashes: H_4(seed), input share, transcript, output share
 unfoldable pub view : Set → (seed share transcript output : Bytes) → Bytes
-view p seed share transcript output = h p 4 seed ++ (share ++ (transcript ++ output))
+view set seed share transcript output = h set 4 seed ++ (share ++ (transcript ++ output))
 
 -- commitment: H_0 of that
 unfoldable pub commitment : Set → (seed share transcript output : Bytes) → Bytes
-commitment p seed share transcript output = h p 0 (view p seed share transcript output)
+commitment set seed share transcript output = h set 0 (view set seed share transcript output)

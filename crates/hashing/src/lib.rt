@@ -3,14 +3,13 @@ ghost use mathlib.Core.Path.{_≡_};
 ghost use mathlib.Core.List.{[], _∷_, _++_};
 ghost use Prim.Native.Nat.{_<_};
 ghost use lib.ListN.{length};
-ghost use Rattle.sets.specs.Sets.{IsSet, numbered};
+ghost use Rattle.sets.specs.Sets.{IsSet};
 ghost use Rattle.sets.specs.Lengths.{seedsLength};
 ghost use Rattle.answers.specs.Answers.{first};
-ghost use Rattle.answers.specs.Outcome.{Promise};
 ghost use Rattle.shake.specs.Sponge.{started, absorbed, Taking};
 ghost use Rattle.hashing.specs.Hashing.{h, kdf, derivedSeeds, tapeInput, tape, commitment};
-ghost use Rattle.hashing.specs.HashCall.{hashed};
-ghost use Rattle.hashing.specs.SeedsCall.{seedsChecks, seeded};
+ghost use Rattle.hashing.specs.HashCall.{HashPromise};
+ghost use Rattle.hashing.specs.SeedsCall.{seedsChecks, SeedsPromise};
 use answers::Refusal;
 use sets::Chosen;
 use sets::Set;
@@ -108,7 +107,7 @@ fn derive(p: Set, secret: &[u8], message: &[u8], public: &[u8], output: &mut [u8
 
 // The hashing call.
 pub fn hash(set: u64, input: &[u8], output: &mut [u8]) -> u64
-    ensures { λ r. ⌜ Promise (hashed (numbered set) (now (input .entry)) (length (now (output .entry)))) (now (output .entry)) r (now (output .exit)) ⌝ }
+    ensures { λ r. ⌜ HashPromise set (now (input .entry)) (now (output .entry)) r (now (output .exit)) ⌝ }
 {
     let chosen = Set::numbered(set);
     let Chosen::Known(p) = chosen else {
@@ -141,7 +140,7 @@ fn seeds_refusal(p: Set, secret: usize, public: usize, message: usize, output: u
 
 // The call that derives seeds.
 pub fn seeds(set: u64, secret: &[u8], public: &[u8], message: &[u8], output: &mut [u8]) -> u64
-    ensures { λ r. ⌜ Promise (seeded (numbered set) (now (secret .entry)) (now (public .entry)) (now (message .entry)) (length (now (output .entry)))) (now (output .entry)) r (now (output .exit)) ⌝ }
+    ensures { λ r. ⌜ SeedsPromise set (now (secret .entry)) (now (public .entry)) (now (message .entry)) (now (output .entry)) r (now (output .exit)) ⌝ }
 {
     let chosen = Set::numbered(set);
     let Chosen::Known(p) = chosen else {

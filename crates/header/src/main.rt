@@ -1,6 +1,5 @@
 // Reads a signature of set 1 on standard input and prints the values of its header, one digit each, as a reader finds them bit
 // by bit. Of input that is shorter than a header it prints the values that are there.
-ghost use Rattle.reader.specs.Reading.{Countable};
 use libc::STDIN_FILENO;
 use libc::STDOUT_FILENO;
 use sets::Set;
@@ -8,9 +7,7 @@ use sets::Set;
 // The values of a header of set 1.
 const VALUES: usize = Set::L1.t;
 
-fn print_values(s: &[u8])
-    requires { ⌜ Countable (now s) ⌝ }
-{
+fn print_values(s: &[u8]) {
     let mut k = 0;
     while k < VALUES {
         if k / 4 < s.len() {

@@ -4,7 +4,7 @@ use mathlib.Core.List.{_++_}
 use Prim.Native.Nat.{ℕ, _+_, _-_, _≤_}
 use native.Mathlib.Omega.{arith}
 use lib.ListN.{length, take, drop}
-use lib.Seq.{length-take-le}
+use lib.Seq.{length-take-le, take-at, drop-at}
 use Rattle.slices.specs.Slices.{Bytes, put, over}
 use Rattle.slices.proofs.SliceLaws.{over-put}
 use Rattle.bits.specs.Bits.{Bits, _⊕_}
@@ -18,7 +18,7 @@ use Rattle.circuit.specs.Matrices.{Matrix, product}
 use Rattle.circuit.specs.Lowmc.{sboxes, start, step, encryption}
 use Rattle.circuit.proofs.LowmcLaws.{encryption-past}
 use Rattle.lowmc.specs.Lent.{matrixOf, constantOf, cipherOf}
-use Rattle.lowmc.specs.Encrypted.{encrypted, publicKey}
+use Rattle.lowmc.specs.Encrypted.{encrypted, publicKey, HalvesOfPublicKey}
 use Rattle.lowmc.proofs.LentLaws.{whole, constant-past}
 
 -- the code's sum of what follows the S-boxes
@@ -76,3 +76,12 @@ key-written p keys layers constants secret block out mid last x e n h em el =
     let l = length-encrypted p keys layers constants secret block in
     el ∙ (ap₂ (λ (m : Bytes) (k : ℕ). put m k block) em (e ∙ sym l)
     ∙ over-put (encrypted p keys layers constants secret block) block out (omega arith))
+
+-- ---- the halves of a public key
+
+pub halves-of-public-key : HalvesOfPublicKey
+unfolding HalvesOfPublicKey publicKey
+halves-of-public-key p keys layers constants secret block =
+    let c = encrypted p keys layers constants secret block in
+    let n = length-encrypted p keys layers constants secret block in
+    (take-at c block (w p) n, drop-at c block (w p) n)

@@ -1,21 +1,22 @@
 -- Laws of the product: the count of ones word by word, the word that 64 rows give, and the rows' places.
-use mathlib.Core.Path.{_≡_, refl, sym, ap, ap₂, _∙_}
+use mathlib.Core.Path.{_≡_, sym, ap, ap₂, _∙_}
 use mathlib.Core.Bool.{Bool, _&&_}
 use Prim.Native.Nat.{ℕ, _+_, _-_, _*_, _%_, _^_, _≤_, _<_}
 use native.Mathlib.Nat.{lt-of-le-of-lt, lt-of-lt-of-le}
 use native.Mathlib.Numerals.{add-one}
 use native.Mathlib.Omega.{arith}
-use lib.Bits.{bitAnd, bitXor, and-le-l, xor-mod}
-use lib.Count.{ones}
+use lib.Bits.{bitAnd, and-le-l}
+use lib.Count.{ones, ones-le}
 use lib.ListN.{getD, take, drop}
 use lib.Pow.{pow-mono}
 use Rattle.slices.specs.Slices.{Bytes}
 use Rattle.bits.specs.Bits.{_⊻_, Bits, Agree, from}
 use Rattle.bits.specs.Bytes.{odd, digit, bitsOf, value}
-use Rattle.bits.specs.Words.{turned, lowBits, Holds}
+use Rattle.bits.specs.Words.{Holds}
+use Rattle.bits.specs.Inner.{bytesReversed, lowBits}
 use Rattle.bits.specs.declared.Block.{Block}
 use Rattle.bits.proofs.BitsLaws.{xor-comm, parity-cong, parity-add, upTo-in, upTo-out}
-use Rattle.bits.proofs.NumberLaws.{digit-odd, odd-add, bit-xor, bit-low0, value-lt, digit-le}
+use Rattle.bits.proofs.NumberLaws.{digit-odd, odd-add, value-lt, digit-le}
 use Rattle.bits.proofs.WordsLaws.{holds-and, holds-value, ones-holds, zero-bits}
 use Rattle.bits.proofs.TurnedLaws.{low-at, parity-turned}
 use Rattle.circuit.specs.Matrices.{Matrix, rowParity, product}
@@ -23,65 +24,52 @@ use Rattle.lowmc.specs.Lent.{row}
 
 -- ---- counts of ones
 
--- the low bit of a sum by the low bits
-pub low-sum : (a b : ℕ) → bitXor (a % 2) (b % 2) ≡ (a + b) % 2
-low-sum a b =
-    sym (xor-mod a b 1) ∙ digit-odd (bitXor a b)
-    ∙ ap digit (sym (bit-low0 (bitXor a b)) ∙ bit-xor a b 0 ∙ ap₂ _⊻_ (bit-low0 a) (bit-low0 b) ∙ sym (odd-add a b))
-    ∙ sym (digit-odd (a + b))
-
--- the ones in word k of a row AND a block, both with the first byte lowest
-pub ones-odd : (s : Bytes) (v : Block) (k x : ℕ) → x < 2 ^ 64 → Holds (turned (from (8 * (8 * k)) (bitsOf s))) x
-    → odd (ones (bitAnd x (getD (v .words) k 0))) ≡ rowParity 64 (from (64 * k) (bitsOf s)) (from (64 * k) (lowBits v))
-unfolding rowParity turned
+-- the ones in word k of a row AND a block, both with the first byte lowest: at most 64, and their low bit the parity
+pub ones-odd : (s : Bytes) (v : Block) (k x : ℕ) → x < 2 ^ 64 → Holds (bytesReversed (from (8 * (8 * k)) (bitsOf s))) x
+    → (ones (bitAnd x (getD (v .words) k 0)) ≤ 64)
+    × (odd (ones (bitAnd x (getD (v .words) k 0))) ≡ rowParity 64 (from (64 * k) (bitsOf s)) (from (64 * k) (lowBits v)))
+unfolding rowParity bytesReversed
 ones-odd s v k x fits h =
     let f = from (64 * k) (bitsOf s) in
     let g = from (64 * k) (lowBits v) in
-    ones-holds (λ j. turned f j && turned g j) (bitAnd x (getD (v .words) k 0)) (lt-of-le-of-lt (and-le-l x (getD (v .words) k 0)) fits)
-    (holds-and (turned f) (turned g) x (getD (v .words) k 0) (λ j l. h j l ∙ ap (bitsOf s) (omega arith)) (low-at v k))
-    ∙ parity-turned (λ j. f j && g j)
+    let y = getD (v .words) k 0 in
+    let l : bitAnd x y < 2 ^ 64 = lt-of-le-of-lt (and-le-l x y) fits in (
+      ones-le 64 (bitAnd x y) l,
+      ones-holds (λ j. bytesReversed f j && bytesReversed g j) (bitAnd x y) l
+          (holds-and (bytesReversed f) (bytesReversed g) x y (λ j b. h j b ∙ ap (bitsOf s) (omega arith)) (low-at v k))
+          ∙ parity-turned (λ j. f j && g j),
+    )
 
-odd-low : (a b r : ℕ) → r ≡ (a + b) % 2 → odd r ≡ odd a ⊻ odd b
-unfolding odd
-odd-low a b r e = ap odd e ∙ (let d : (a + b) % 2 % 2 ≡ (a + b) % 2 = omega arith in rw d) ∙ odd-add a b
-
--- the ones of m bits and of n more
-odd-join : (f g : Bits) (m n t o r : ℕ) → odd t ≡ rowParity m f g → odd o ≡ rowParity n (from m f) (from m g) → r ≡ (t + o) % 2
-    → odd r ≡ rowParity (m + n) f g
+-- the ones of m bits and of n more, added
+odd-join : (f g : Bits) (m n t o : ℕ) → odd t ≡ rowParity m f g → odd o ≡ rowParity n (from m f) (from m g)
+    → odd (t + o) ≡ rowParity (m + n) f g
 unfolding rowParity
-odd-join f g m n t o r et eo er =
-    odd-low t o r er ∙ ap₂ _⊻_ et eo ∙ xor-comm _ _ ∙ sym (parity-add m n (λ j. f j && g j))
+odd-join f g m n t o et eo = odd-add t o ∙ ap₂ _⊻_ et eo ∙ xor-comm _ _ ∙ sym (parity-add m n (λ j. f j && g j))
 
--- a word behind others
-odd-behind : (f g : Bits) (m n k o : ℕ) → m + n ≡ k → odd o ≡ rowParity 64 (from k f) (from k g)
-    → odd o ≡ rowParity 64 (from n (from m f)) (from n (from m g))
-unfolding rowParity
-odd-behind f g m n k o d e = e ∙ parity-cong 64 _ _ (λ j h. let z : k + j ≡ m + (n + j) = omega arith in ap (λ (i : ℕ). f i && g i) z)
-
--- the low bits of the counts of two, three and four words
+-- sums of the counts of two, three and four words
 module _ (f g : Bits) where
   -- o ones in word k
   abbrev pub Counted : ℕ → ℕ → Type 0
   Counted k o = odd o ≡ rowParity 64 (from (64 * k) f) (from (64 * k) g)
 
-  pub two-words : (a b r : ℕ) → Counted 0 a → Counted 1 b → r ≡ (a + b) % 2 → odd r ≡ rowParity 128 f g
+  pub two-words : (a b : ℕ) → Counted 0 a → Counted 1 b → odd (a + b) ≡ rowParity 128 f g
   unfolding rowParity
-  two-words a b r ea eb e =
-      odd-join f g 64 64 a b r (ea ∙ parity-cong 64 _ _ (λ j h. let z : 0 + j ≡ j = omega arith in ap (λ (i : ℕ). f i && g i) z)) eb e
+  two-words a b ea eb =
+      odd-join f g 64 64 a b (ea ∙ parity-cong 64 _ _ (λ j h. let z : 0 + j ≡ j = omega arith in ap (λ (i : ℕ). f i && g i) z)) eb
 
-  pub three-words : (t c r : ℕ) → odd t ≡ rowParity 128 f g → Counted 2 c → r ≡ (t + c) % 2 → odd r ≡ rowParity 192 f g
-  three-words t c r et ec e = odd-join f g 128 64 t c r et ec e
+  pub three-words : (t c : ℕ) → odd t ≡ rowParity 128 f g → Counted 2 c → odd (t + c) ≡ rowParity 192 f g
+  three-words t c et ec = odd-join f g 128 64 t c et ec
 
-  pub four-words : (t c d u r : ℕ) → odd t ≡ rowParity 128 f g → Counted 2 c → Counted 3 d → u ≡ (c + d) % 2 → r ≡ (t + u) % 2
-      → odd r ≡ rowParity 256 f g
-  four-words t c d u r et ec ed eu er =
-      odd-join f g 128 128 t u r et (odd-join (from 128 f) (from 128 g) 64 64 c d u ec (odd-behind f g 128 64 192 d refl ed) eu) er
+  pub four-words : (t d : ℕ) → odd t ≡ rowParity 192 f g → Counted 3 d → odd (t + d) ≡ rowParity 256 f g
+  four-words t d et ed = odd-join f g 192 64 t d et ed
 
--- the low bit itself
-pub low-digit : (f g : Bits) (m n a r : ℕ) → r ≡ a % 2 → odd r ≡ rowParity m f g → m ≡ n → r ≡ digit (rowParity n f g)
-low-digit f g m n a r e o d =
-    let l : r ≡ r % 2 = omega arith in
-    l ∙ digit-odd r ∙ ap digit (o ∙ ap (λ (k : ℕ). rowParity k f g) d)
+  -- the number of bits by another name
+  pub of-width : (m n t : ℕ) → m ≡ n → odd t ≡ rowParity m f g → odd t ≡ rowParity n f g
+  of-width m n t d e = e ∙ ap (λ (k : ℕ). rowParity k f g) d
+
+-- the low bit of the sum
+pub low-digit : (b : Bool) (t : ℕ) → odd t ≡ b → t % 2 ≡ digit b
+low-digit b t e = digit-odd t ∙ ap digit e
 
 -- ---- the word that 64 rows give
 

@@ -1,4 +1,4 @@
--- What contracts of inner functions cite: rows of whole words, and the bits of S-boxes in lanes.
+-- Cited by inner contracts alone: rows of whole words, and the bits of S-boxes in lanes.
 use mathlib.Core.Path.{_≡_}
 use mathlib.Core.Bool.{_&&_}
 use Prim.Native.Nat.{ℕ, _*_, _%_, _≤_, _<_}
@@ -23,11 +23,11 @@ unfoldable pub starts : ℕ → Bits
 starts s = upTo (3 * s) (λ i. eqb (i % 3) 0)
 
 -- the bits of f at these places, zero bits elsewhere
-unfoldable pub lane : ℕ → Bits → Bits
-lane s f i = starts s i && f i
+unfoldable pub atStarts : ℕ → Bits → Bits
+atStarts s f i = starts s i && f i
 
 -- the bits c, b, a of the S-boxes on f, each at its S-box's first place
 pub record Laned (s : ℕ) (f : Bits) (l : Lanes) : Type 0 where
-  pub at-c : Holds (lane s f) (l .c)
-  pub at-b : Holds (lane s (from 1 f)) (l .b)
-  pub at-a : Holds (lane s (from 2 f)) (l .a)
+  pub at-c : Holds (atStarts s f) (l .c)
+  pub at-b : Holds (atStarts s (from 1 f)) (l .b)
+  pub at-a : Holds (atStarts s (from 2 f)) (l .a)

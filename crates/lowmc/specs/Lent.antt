@@ -29,18 +29,18 @@ constantOf n l k = row (width n) l k
 
 -- LowMC of a set over its lent tables
 abbrev pub cipherOf : Set → (keys layers constants : Bytes) → Cipher
-cipherOf p keys layers constants = record {
-  n = p .n;
-  s = p .s;
-  r = p .r;
-  Kmatrix = matrixOf (p .n) keys;
-  Lmatrix = matrixOf (p .n) layers;
-  roundconstant = constantOf (p .n) constants;
+cipherOf set keys layers constants = record {
+  n = set .n;
+  s = set .s;
+  r = set .r;
+  Kmatrix = matrixOf (set .n) keys;
+  Lmatrix = matrixOf (set .n) layers;
+  roundconstant = constantOf (set .n) constants;
 }
 
 -- the lent tables of a set have exactly their lengths
-pub record Lent (p : Set) (keys layers constants : Bytes) : Type 0 where
-  pub is-set : IsSet p
-  pub keys-length : length keys ≡ keysLength p
-  pub layers-length : length layers ≡ layersLength p
-  pub constants-length : length constants ≡ constantsLength p
+pub record Lent (set : Set) (keys layers constants : Bytes) : Type 0 where
+  pub is-set : IsSet set
+  pub keys-length : length keys ≡ keysLength set
+  pub layers-length : length layers ≡ layersLength set
+  pub constants-length : length constants ≡ constantsLength set

@@ -5,10 +5,10 @@ ghost use lib.ListN.{length};
 ghost use Rattle.slices.specs.Slices.{over};
 ghost use Rattle.bits.specs.Bits.{_⊕_, Agree, upTo, from};
 ghost use Rattle.bits.specs.Bytes.{bitsOf, odd, digit};
-ghost use Rattle.bits.specs.Words.{wordBits, blockBits, lowBits, Holds};
-ghost use Rattle.sets.specs.Sets.{IsSet, numbered};
+ghost use Rattle.bits.specs.Words.{wordBits, blockBits, Holds};
+ghost use Rattle.bits.specs.Inner.{lowBits};
+ghost use Rattle.sets.specs.Sets.{IsSet};
 ghost use Rattle.answers.specs.Answers.{first};
-ghost use Rattle.answers.specs.Outcome.{Promise};
 ghost use Rattle.sets.specs.Lengths.{w, keysLength, layersLength, constantsLength, publicLength};
 ghost use Rattle.circuit.specs.Matrices.{rowParity, product};
 ghost use Rattle.circuit.specs.Lowmc.{sboxes, step, encryption};
@@ -16,41 +16,42 @@ ghost use Rattle.circuit.specs.Gates.{leftFactor, rightFactor, sboxesBy};
 ghost use Rattle.lowmc.specs.Lent.{row, matrixOf, constantOf, cipherOf, Lent};
 ghost use Rattle.lowmc.specs.Encrypted.{encrypted, publicKey};
 ghost use Rattle.lowmc.specs.Inner.{Words, InWord, starts, Laned};
-ghost use Rattle.lowmc.specs.Calls.{lowmcChecks, encryptOutcome, publicKeyOutcome};
+ghost use Rattle.lowmc.specs.Calls.{lowmcChecks, EncryptPromise, PublicKeyPromise};
 use answers::Refusal;
 use bits::Block;
 use sets::Chosen;
 use sets::Set;
 
-// The low bit of a sum. Written as an exclusive or of low bits, the counts of a row's words compile to one.
-fn low_bit(a: u32, b: u32) -> u32
-    ensures { λ r. ⌜ r ≡ (a + b) % 2 ⌝ }
-{
-    (a % 2) ^ (b % 2)
-}
-
 // The ones in word k of row AND v. Words of v have their first byte lowest, as words of the row have when they are loaded: the
 // order of bytes does not count, and so nothing is turned in the loop over rows.
 fn ones(row: &[u8], v: Block, k: usize) -> u32
     requires { ⌜ (k < 4) × (8 * k + 8 ≤ length (now row)) ⌝ }
-    ensures { λ r. ⌜ odd r ≡ rowParity 64 (from (64 * k) (bitsOf (now (row .entry)))) (from (64 * k) (lowBits v)) ⌝ }
+    ensures { λ r. ⌜ (r ≤ 64) × (odd r ≡ rowParity 64 (from (64 * k) (bitsOf (now (row .entry)))) (from (64 * k) (lowBits v))) ⌝ }
 {
     u64::count_ones(bits::load_low(row, 8 * k) & v.words[k])
 }
 
-// The parity of row AND v: the low bit of the sum of the ones in each of the w / 8 words.
+// The ones in row AND v: the sum of those in each of the w / 8 words. Each width has an expression of its own, and so a loop over
+// rows of its own.
+fn row_ones(row: &[u8], w: usize, v: Block) -> u32
+    requires { ⌜ Words w × (length (now row) ≡ w) ⌝ }
+    ensures { λ r. ⌜ odd r ≡ rowParity (8 * w) (bitsOf (now (row .entry))) (lowBits v) ⌝ }
+{
+    if w == 16 {
+        return ones(row, v, 0) + ones(row, v, 1);
+    }
+    if w == 24 {
+        return ones(row, v, 0) + ones(row, v, 1) + ones(row, v, 2);
+    }
+    ones(row, v, 0) + ones(row, v, 1) + ones(row, v, 2) + ones(row, v, 3)
+}
+
+// The parity of row AND v: the low bit of the sum.
 fn row_parity(row: &[u8], w: usize, v: Block) -> u32
     requires { ⌜ Words w × (length (now row) ≡ w) ⌝ }
     ensures { λ r. ⌜ r ≡ digit (rowParity (8 * w) (bitsOf (now (row .entry))) (lowBits v)) ⌝ }
 {
-    let two = low_bit(ones(row, v, 0), ones(row, v, 1));
-    if w == 16 {
-        return two;
-    }
-    if w == 24 {
-        return low_bit(two, ones(row, v, 2));
-    }
-    low_bit(two, low_bit(ones(row, v, 2), ones(row, v, 3)))
+    row_ones(row, w, v) % 2
 }
 
 // What the 64 rows of m from row g on give with v, the first row's bit highest. Rows have w bytes.
@@ -124,8 +125,7 @@ struct Parities {
     b: u32,
 }
 
-// The parities of row AND each of two vectors. A function of its own, not two calls of `row_parity`: called at one place alone,
-// each of the two is compiled into its loop.
+// The parities of row AND each of two vectors.
 fn row_parities(row: &[u8], w: usize, v: Pair) -> Parities
     requires { ⌜ Words w × (length (now row) ≡ w) ⌝ }
     ensures { λ r. ⌜
@@ -133,22 +133,9 @@ fn row_parities(row: &[u8], w: usize, v: Pair) -> Parities
         × (r .b ≡ digit (rowParity (8 * w) (bitsOf (now (row .entry))) (lowBits (v .b))))
         ⌝ }
 {
-    let x = v.a;
-    let y = v.b;
-    let a = low_bit(ones(row, x, 0), ones(row, x, 1));
-    let b = low_bit(ones(row, y, 0), ones(row, y, 1));
-    if w == 16 {
-        return Parities { a, b };
-    }
-    if w == 24 {
-        return Parities {
-            a: low_bit(a, ones(row, x, 2)),
-            b: low_bit(b, ones(row, y, 2)),
-        };
-    }
     Parities {
-        a: low_bit(a, low_bit(ones(row, x, 2), ones(row, x, 3))),
-        b: low_bit(b, low_bit(ones(row, y, 2), ones(row, y, 3))),
+        a: row_ones(row, w, v.a) % 2,
+        b: row_ones(row, w, v.b) % 2,
     }
 }
 
@@ -510,7 +497,7 @@ pub fn encrypt_call(
     block: &[u8],
     output: &mut [u8],
 ) -> u64
-    ensures { λ r. ⌜ Promise (encryptOutcome (numbered set) (now (keys .entry)) (now (layers .entry)) (now (constants .entry)) (now (secret .entry)) (now (block .entry)) (length (now (output .entry)))) (now (output .entry)) r (now (output .exit)) ⌝ }
+    ensures { λ r. ⌜ EncryptPromise set (now (keys .entry)) (now (layers .entry)) (now (constants .entry)) (now (secret .entry)) (now (block .entry)) (now (output .entry)) r (now (output .exit)) ⌝ }
 {
     let chosen = Set::numbered(set);
     let Chosen::Known(p) = chosen else {
@@ -544,7 +531,7 @@ pub fn public_key_call(
     block: &[u8],
     output: &mut [u8],
 ) -> u64
-    ensures { λ r. ⌜ Promise (publicKeyOutcome (numbered set) (now (keys .entry)) (now (layers .entry)) (now (constants .entry)) (now (secret .entry)) (now (block .entry)) (length (now (output .entry)))) (now (output .entry)) r (now (output .exit)) ⌝ }
+    ensures { λ r. ⌜ PublicKeyPromise set (now (keys .entry)) (now (layers .entry)) (now (constants .entry)) (now (secret .entry)) (now (block .entry)) (now (output .entry)) r (now (output .exit)) ⌝ }
 {
     let chosen = Set::numbered(set);
     let Chosen::Known(p) = chosen else {

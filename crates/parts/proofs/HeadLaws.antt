@@ -8,8 +8,8 @@ use borrow.Author.Tests.{lt-ltb, le-ltb}
 use Rattle.slices.specs.Slices.{Bytes}
 use Rattle.bits.proofs.NumberLaws.{below}
 use Rattle.sets.specs.declared.Set.{Set}
-use Rattle.sets.specs.Lengths.{header}
-use Rattle.shape.specs.Fields.{all, padded}
+use Rattle.sets.specs.Lengths.{headerLength}
+use Rattle.shape.specs.Fields.{all, zeroPadded}
 use Rattle.shape.specs.Header.{valueAt, values, isValue}
 use Rattle.shape.specs.Reading.{headerWrong}
 use Rattle.shape.proofs.PaddingLaws.{all-each, all-fails, width-room}
@@ -46,13 +46,13 @@ module _ (p : Set) (s : Bytes) where
       sym (all-fails isValue (values p s) k (omega (arith, length-values p s)) (ap isValue (getD-values p s k h ∙ sym e) ∙ le-ltb v 3 l))
 
 -- a value's byte is in the header
-pub value-inside : (p : Set) (n k : ℕ) → header p ≤ n → k < p .t → k < 4 * n
+pub value-inside : (p : Set) (n k : ℕ) → headerLength p ≤ n → k < p .t → k < 4 * n
 value-inside p n k h l = omega (arith, width-room (2 * p .t))
 
 -- ---- the header's check
 
 module _ (p : Set) (s : Bytes) (a : Bool) (e : a ≡ all isValue (values p s)) where
-  pub header-tested : a ≡ true → (b : Bool) → b ≡ padded (2 * p .t) s → not b ≡ headerWrong p s
+  pub header-tested : a ≡ true → (b : Bool) → b ≡ zeroPadded (2 * p .t) s → not b ≡ headerWrong p s
   unfolding headerWrong
   header-tested h b g = rw (g, ← e, h)
 
@@ -60,5 +60,5 @@ module _ (p : Set) (s : Bytes) (a : Bool) (e : a ≡ all isValue (values p s)) w
   unfolding headerWrong
   header-failed h = rw (← e, h)
 
-pub header-inside : (p : Set) (n : ℕ) → 0 < p .t → p .t ≤ 438 → header p ≤ n → (0 < 2 * p .t) × ((2 * p .t ≤ 65536) × (0 + header p ≤ n))
+pub header-inside : (p : Set) (n : ℕ) → 0 < p .t → p .t ≤ 438 → headerLength p ≤ n → (0 < 2 * p .t) × ((2 * p .t ≤ 65536) × (0 + headerLength p ≤ n))
 header-inside p n h l g = (omega arith, (omega arith, omega arith))

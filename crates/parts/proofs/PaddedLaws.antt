@@ -12,12 +12,12 @@ use Rattle.bits.specs.Bits.{from}
 use Rattle.bits.specs.Bytes.{bitsOf, value, width}
 use Rattle.bits.proofs.NumberLaws.{value-lt, value-cong, value-add}
 use Rattle.bits.proofs.BytesLaws.{byte-value}
-use Rattle.shape.specs.Fields.{padded}
+use Rattle.shape.specs.Fields.{zeroPadded}
 
 -- the padding of m bits in n bytes is the last byte's remainder
 pub padded-byte : (s : Bytes) (at m n : ℕ) → n ≡ (m + 7) / 8 → 0 < m → getD s (at + (n - 1)) 0 < 256
-    → eqb (getD s (at + (n - 1)) 0 % 2 ^ (8 * n - m)) 0 ≡ padded m (drop at s)
-unfolding padded width
+    → eqb (getD s (at + (n - 1)) 0 % 2 ^ (8 * n - m)) 0 ≡ zeroPadded m (drop at s)
+unfolding zeroPadded width
 padded-byte s at m n e h b =
     let k : ℕ = 8 * n - m in
     let y = drop at s in

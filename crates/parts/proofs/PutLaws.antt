@@ -11,10 +11,10 @@ use Rattle.bits.specs.Bits.{Bits, from}
 use Rattle.bits.specs.Bytes.{value, bytes, bytesOf}
 use Rattle.bits.proofs.BytesLaws.{length-bytes, put-byte, put-no-bytes}
 use Rattle.sets.specs.declared.Set.{Set}
-use Rattle.sets.specs.Lengths.{header, roundLeast, roundMost}
+use Rattle.sets.specs.Lengths.{headerLength, roundLeast, roundMost}
 use Rattle.shape.specs.Fields.{sizes}
 use Rattle.shape.specs.Header.{pairBits, headerOf}
-use Rattle.shape.specs.Rounds.{round}
+use Rattle.shape.specs.Rounds.{roundFields}
 use Rattle.shape.specs.Form.{Sized, slotOf, roundOf}
 use Rattle.shape.proofs.HeaderLaws.{pairs-end}
 use Rattle.shape.proofs.RoundsLaws.{sizes-zero, sizes-other}
@@ -48,7 +48,7 @@ module _ {vs : List ℕ} {out₀ : Bytes} {i : ℕ} {out : Bytes} (h : Headed vs
         far = omega arith;
       }
 
-  pub headed-all : (p : Set) → length vs ≡ p .t → i ≡ header p → out ≡ over (headerOf p vs) out₀
+  pub headed-all : (p : Set) → length vs ≡ p .t → i ≡ headerLength p → out ≡ over (headerOf p vs) out₀
   unfolding headerOf bytesOf
   headed-all p e g =
       h .is ∙ ap (λ (f : Bits). put out₀ 0 (bytes i f)) (sym (pairs-end vs)) ∙ (rw (g, e) (put-start out₀ _))
@@ -113,7 +113,7 @@ module _ (p : Set) (e : ℕ) (a b c d f : Bytes) (z : Sized p (showing a b c d f
       → s1 ≡ put s at (roundOf p e (showing a b c d f))
   put-zero s at y g = g ∙ ap (put s at) (sym (round-zero y))
 
-  pub put-other : (s : Bytes) (at : ℕ) {s1 s2 : Bytes} (n : ℕ) → (e ≡ 0 → ⊥) → at + sizes (round p e) ≤ length s → n ≡ at + roundLeast p
+  pub put-other : (s : Bytes) (at : ℕ) {s1 s2 : Bytes} (n : ℕ) → (e ≡ 0 → ⊥) → at + sizes (roundFields p e) ≤ length s → n ≡ at + roundLeast p
       → s1 ≡ put s at (a ++ (b ++ (c ++ d))) → s2 ≡ put s1 n f → s2 ≡ put s at (roundOf p e (showing a b c d f))
   unfolding four
   put-other s at {s1} {s2} n y l q g k =

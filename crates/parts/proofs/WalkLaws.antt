@@ -12,30 +12,30 @@ use Rattle.slices.specs.Slices.{Bytes}
 use Rattle.bits.specs.Bytes.{width}
 use Rattle.sets.specs.declared.Set.{Set}
 use Rattle.sets.specs.Sets.{IsSet}
-use Rattle.sets.specs.Lengths.{salt, header, roundLeast}
-use Rattle.shape.specs.Fields.{sizes, padded, clean}
+use Rattle.sets.specs.Lengths.{saltLength, headerLength, roundLeast, transcriptBits}
+use Rattle.shape.specs.Fields.{sizes, zeroPadded, clean}
 use Rattle.shape.specs.Header.{valueAt, values}
-use Rattle.shape.specs.Rounds.{gates, round, rounds, fields, signatureLength, start}
+use Rattle.shape.specs.Rounds.{roundFields, roundsFields, fields, signatureLength, roundStart}
 use Rattle.shape.specs.Reading.{paddingWrong}
 use Rattle.shape.proofs.PaddingLaws.{padded-whole, padded-bytes}
 use Rattle.shape.proofs.HeaderLaws.{length-values, getD-values}
 use Rattle.shape.proofs.RoundsLaws.{signature-most, sizes-bounds, start-first, start-more, start-last, start-within, round-within}
 use Rattle.shape.proofs.RoundLaws.{clean-zero, clean-other}
 use Rattle.shape.proofs.FormLaws.{clean-more, clean-fails}
-use Rattle.shape.proofs.SetFacts.{seeds-whole, shares-whole, some-gates, gates≤, longest≤}
+use Rattle.shape.proofs.SetFacts.{seeds-whole, shares-whole, some-gates, transcriptBits≤, longest≤}
 
 -- ---- where rounds start
 
 -- round k starts at a place
 pub record Reached (p : Set) (s : Bytes) (at k : ℕ) : Type 0 where
   pub far : k ≤ p .t
-  pub is : at ≡ start p (values p s) k
+  pub is : at ≡ roundStart p (values p s) k
 
-pub reached-first : (p : Set) (s : Bytes) (at : ℕ) → at ≡ header p + salt → Reached p s at 0
+pub reached-first : (p : Set) (s : Bytes) (at : ℕ) → at ≡ headerLength p + saltLength → Reached p s at 0
 reached-first p s at e = record { far = omega arith; is = e ∙ sym (start-first p (values p s)) }
 
 module _ {p : Set} {s : Bytes} {at k : ℕ} (r : Reached p s at k) where
-  pub reached-more : k < p .t → (v n : ℕ) → v ≡ valueAt s k → n ≡ sizes (round p v) → Reached p s (at + n) (k + 1)
+  pub reached-more : k < p .t → (v n : ℕ) → v ≡ valueAt s k → n ≡ sizes (roundFields p v) → Reached p s (at + n) (k + 1)
   reached-more h v n e g =
       let d : getD (values p s) k 0 ≡ v = getD-values p s k h ∙ sym e in
       record {
@@ -45,7 +45,7 @@ module _ {p : Set} {s : Bytes} {at k : ℕ} (r : Reached p s at k) where
               arith,
               r .is,
               start-more p (values p s) k (omega (arith, length-values p s)),
-              ap (λ (x : ℕ). sizes (round p x)) d,
+              ap (λ (x : ℕ). sizes (roundFields p x)) d,
             );
       }
 
@@ -53,7 +53,7 @@ module _ {p : Set} {s : Bytes} {at k : ℕ} (r : Reached p s at k) where
   pub reached-end : p .t ≤ k → at ≡ signatureLength p (values p s)
   reached-end h =
       let e : k ≡ length (values p s) = omega (arith, length-values p s, r .far) in
-      r .is ∙ (ap (start p (values p s)) e ∙ start-last p (values p s))
+      r .is ∙ (ap (roundStart p (values p s)) e ∙ start-last p (values p s))
 
   pub reached-most : IsSet p → at ≤ 132856
   reached-most q =
@@ -67,22 +67,22 @@ module _ {p : Set} {s : Bytes} {at k : ℕ} (r : Reached p s at k) where
       )
 
   -- a round lies within the signature
-  pub reached-within : k < p .t → length s ≡ signatureLength p (values p s) → at + sizes (round p (getD (values p s) k 0)) ≤ length s
+  pub reached-within : k < p .t → length s ≡ signatureLength p (values p s) → at + sizes (roundFields p (getD (values p s) k 0)) ≤ length s
   reached-within h l = omega (arith, r .is, round-within p (values p s) k (omega (arith, length-values p s)))
 
   -- and so does its transcript, of m bits
-  pub transcript-within : IsSet p → k < p .t → length s ≡ signatureLength p (values p s) → (m : ℕ) → m ≡ gates p
+  pub transcript-within : IsSet p → k < p .t → length s ≡ signatureLength p (values p s) → (m : ℕ) → m ≡ transcriptBits p
       → (0 < m) × ((m ≤ 65536) × (at + p .digest + width m ≤ length s))
   transcript-within q h l m e =
-      rw e (some-gates q, (omega (arith, gates≤ q), omega (arith, reached-within h l, sizes-bounds p (getD (values p s) k 0))))
+      rw e (some-gates q, (omega (arith, transcriptBits≤ q), omega (arith, reached-within h l, sizes-bounds p (getD (values p s) k 0))))
 
 -- ---- the padding of rounds
 
 -- seeds and shares are whole bytes: a round's padding is its transcript's
-round-padding : {p : Set} → IsSet p → (e at : ℕ) (s : Bytes) → clean (round p e) (drop at s) ≡ padded (gates p) (drop (at + p .digest) s)
+round-padding : {p : Set} → IsSet p → (e at : ℕ) (s : Bytes) → clean (roundFields p e) (drop at s) ≡ zeroPadded (transcriptBits p) (drop (at + p .digest) s)
 round-padding {p} q e at s = go (eqb e 0) refl
   where
-    go : (b : Bool) → eqb e 0 ≡ b → clean (round p e) (drop at s) ≡ padded (gates p) (drop (at + p .digest) s)
+    go : (b : Bool) → eqb e 0 ≡ b → clean (roundFields p e) (drop at s) ≡ zeroPadded (transcriptBits p) (drop (at + p .digest) s)
     go true z = clean-zero p (seeds-whole q) e (drop at s) (eqb-true e 0 z) ∙ rw drop-drop
     go false z =
         clean-other p (seeds-whole q) e (drop at s) (eqb-false e 0 z)
@@ -91,20 +91,20 @@ round-padding {p} q e at s = go (eqb e 0) refl
 -- the padding of the rounds passed is zero
 pub record Padded (p : Set) (s : Bytes) (at k : ℕ) : Type 0 where
   pub reached : Reached p s at k
-  pub passed : clean (fields p (take k (values p s))) (drop (header p) s) ≡ true
+  pub passed : clean (fields p (take k (values p s))) (drop (headerLength p) s) ≡ true
 
-pub padded-first : (p : Set) (s : Bytes) (at : ℕ) → at ≡ header p + salt → Padded p s at 0
-unfolding clean rounds
-padded-first p s at e = record { reached = reached-first p s at e; passed = rw (padded-bytes salt (drop (header p) s)) }
+pub padded-first : (p : Set) (s : Bytes) (at : ℕ) → at ≡ headerLength p + saltLength → Padded p s at 0
+unfolding clean roundsFields
+padded-first p s at e = record { reached = reached-first p s at e; passed = rw (padded-bytes saltLength (drop (headerLength p) s)) }
 
-module _ {p : Set} {s : Bytes} {at k : ℕ} (r : Padded p s at k) (q : IsSet p) (m : ℕ) (em : m ≡ gates p) where
-  there : {b : Bool} → b ≡ padded m (drop (at + p .digest) s)
-      → clean (round p (getD (values p s) k 0)) (drop (start p (values p s) k) s) ≡ b
+module _ {p : Set} {s : Bytes} {at k : ℕ} (r : Padded p s at k) (q : IsSet p) (m : ℕ) (em : m ≡ transcriptBits p) where
+  there : {b : Bool} → b ≡ zeroPadded m (drop (at + p .digest) s)
+      → clean (roundFields p (getD (values p s) k 0)) (drop (roundStart p (values p s) k) s) ≡ b
   there e =
       rw (← (r .reached .is)) (round-padding q (getD (values p s) k 0) at s ∙ sym
-      (e ∙ ap (λ (n : ℕ). padded n (drop (at + p .digest) s)) em))
+      (e ∙ ap (λ (n : ℕ). zeroPadded n (drop (at + p .digest) s)) em))
 
-  pub padded-more : k < p .t → true ≡ padded m (drop (at + p .digest) s) → (v n : ℕ) → v ≡ valueAt s k → n ≡ sizes (round p v)
+  pub padded-more : k < p .t → true ≡ zeroPadded m (drop (at + p .digest) s) → (v n : ℕ) → v ≡ valueAt s k → n ≡ sizes (roundFields p v)
       → Padded p s (at + n) (k + 1)
   padded-more h b v n e g =
       record {
@@ -113,7 +113,7 @@ module _ {p : Set} {s : Bytes} {at k : ℕ} (r : Padded p s at k) (q : IsSet p) 
             clean-more p (values p s) k (omega (arith, length-values p s)) s (r .passed) (there b);
       }
 
-  pub padded-fails : k < p .t → false ≡ padded m (drop (at + p .digest) s) → true ≡ paddingWrong p s
+  pub padded-fails : k < p .t → false ≡ zeroPadded m (drop (at + p .digest) s) → true ≡ paddingWrong p s
   unfolding paddingWrong
   padded-fails h b = ap not (sym (clean-fails p (values p s) k (omega (arith, length-values p s)) s (there b)))
 
@@ -122,4 +122,4 @@ module _ {p : Set} {s : Bytes} {at k : ℕ} (r : Padded p s at k) (q : IsSet p) 
   padded-end h =
       let l : k ≡ length (values p s) = omega (arith, length-values p s, r .reached .far) in
       let e : take k (values p s) ≡ values p s = ap (λ (n : ℕ). take n (values p s)) l ∙ take-length (values p s) in
-      ap not (sym (ap (λ (es : List ℕ). clean (fields p es) (drop (header p) s)) (sym e) ∙ r .passed))
+      ap not (sym (ap (λ (es : List ℕ). clean (fields p es) (drop (headerLength p) s)) (sym e) ∙ r .passed))

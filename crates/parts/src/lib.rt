@@ -7,11 +7,11 @@ ghost use Rattle.slices.specs.Slices.{put, over};
 ghost use Rattle.bits.specs.Bits.{from};
 ghost use Rattle.bits.specs.Bytes.{value, width};
 ghost use Rattle.sets.specs.Sets.{IsSet};
-ghost use Rattle.sets.specs.Lengths.{salt, header};
+ghost use Rattle.sets.specs.Lengths.{saltLength, headerLength, transcriptBits};
 ghost use Rattle.answers.specs.Answers.{first};
-ghost use Rattle.shape.specs.Fields.{all, sizes, padded};
+ghost use Rattle.shape.specs.Fields.{all, sizes, zeroPadded};
 ghost use Rattle.shape.specs.Header.{pairBits, headerOf, valueAt, values, isValue, AreValues};
-ghost use Rattle.shape.specs.Rounds.{gates, round, signatureLength};
+ghost use Rattle.shape.specs.Rounds.{roundFields, signatureLength};
 ghost use Rattle.shape.specs.Form.{Sized, roundOf};
 ghost use Rattle.shape.specs.Reading.{headerWrong, paddingWrong, readChecks};
 ghost use Rattle.parts.specs.Places.{partsAt, Stands, Located, showing};
@@ -58,7 +58,7 @@ pub fn value(s: &[u8], k: usize) -> u8
 
 // No pair is 11.
 fn all_values(p: Set, s: &[u8]) -> bool
-    requires { ⌜ IsSet p × (header p ≤ length (now s)) ⌝ }
+    requires { ⌜ IsSet p × (headerLength p ≤ length (now s)) ⌝ }
     ensures { λ b. ⌜ b ≡ all isValue (values p (now (s .entry))) ⌝ }
 {
     let t = p.t;
@@ -75,7 +75,7 @@ fn all_values(p: Set, s: &[u8]) -> bool
 // The bits behind the first m of a field that starts at a place, to the byte, are zero.
 pub fn padded(s: &[u8], at: usize, m: usize) -> bool
     requires { ⌜ (0 < m) × ((m ≤ 65536) × (at + width m ≤ length (now s))) ⌝ }
-    ensures { λ b. ⌜ b ≡ padded m (drop at (now (s .entry))) ⌝ }
+    ensures { λ b. ⌜ b ≡ zeroPadded m (drop at (now (s .entry))) ⌝ }
 {
     let n = (m + 7) / 8;
     let last = at + (n - 1);
@@ -85,7 +85,7 @@ pub fn padded(s: &[u8], at: usize, m: usize) -> bool
 
 // A header pair 11, or header padding not zero.
 fn header_wrong(p: Set, s: &[u8]) -> bool
-    requires { ⌜ IsSet p × (header p ≤ length (now s)) ⌝ }
+    requires { ⌜ IsSet p × (headerLength p ≤ length (now s)) ⌝ }
     ensures { λ b. ⌜ b ≡ headerWrong p (now (s .entry)) ⌝ }
 {
     if all_values(p, s) {
@@ -97,7 +97,7 @@ fn header_wrong(p: Set, s: &[u8]) -> bool
 // The length of a round of value e.
 pub fn round_length(p: Set, e: u8) -> usize
     requires { ⌜ IsSet p ⌝ }
-    ensures { λ n. ⌜ n ≡ sizes (round p e) ⌝ }
+    ensures { λ n. ⌜ n ≡ sizes (roundFields p e) ⌝ }
 {
     if e != 0 {
         return p.round_most();
@@ -107,7 +107,7 @@ pub fn round_length(p: Set, e: u8) -> usize
 
 // The length that the header asks for.
 fn full_length(p: Set, s: &[u8]) -> usize
-    requires { ⌜ IsSet p × (header p ≤ length (now s)) ⌝ }
+    requires { ⌜ IsSet p × (headerLength p ≤ length (now s)) ⌝ }
     ensures { λ n. ⌜ n ≡ signatureLength p (values p (now (s .entry))) ⌝ }
 {
     let t = p.t;
@@ -123,7 +123,7 @@ fn full_length(p: Set, s: &[u8]) -> usize
 // The bits of a transcript.
 pub fn gates(p: Set) -> usize
     requires { ⌜ IsSet p ⌝ }
-    ensures { λ n. ⌜ n ≡ gates p ⌝ }
+    ensures { λ n. ⌜ n ≡ transcriptBits p ⌝ }
 {
     3 * p.s * p.r
 }
@@ -187,7 +187,7 @@ pub fn places(p: Set, e: u8, at: usize) -> Parts
 // The cursor at the first round.
 pub fn start(p: Set) -> Cursor
     requires { ⌜ IsSet p ⌝ }
-    ensures { λ c. ⌜ (c .round ≡ 0) × (c .at ≡ header p + salt) ⌝ }
+    ensures { λ c. ⌜ (c .round ≡ 0) × (c .at ≡ headerLength p + saltLength) ⌝ }
 {
     Cursor {
         round: 0,
@@ -239,7 +239,7 @@ fn header_byte(values: &[u8], i: usize) -> u8
 
 // The header of T values, at the start of an output.
 pub fn put_header(p: Set, values: &[u8], output: &mut [u8])
-    requires { ⌜ IsSet p × ((length (now values) ≡ p .t) × (AreValues (now values) × (header p ≤ length (now output)))) ⌝ }
+    requires { ⌜ IsSet p × ((length (now values) ≡ p .t) × (AreValues (now values) × (headerLength p ≤ length (now output)))) ⌝ }
     ensures { λ _. ⌜ now (output .exit) ≡ over (headerOf p (now (values .entry))) (now (output .entry)) ⌝ }
 {
     let n = p.header();
@@ -281,10 +281,10 @@ pub fn put_round(
     requires { ⌜
         IsSet p
         × (Sized p (showing (now commitment) (now transcript) (now seed1) (now seed2) (now share))
-        × (at + sizes (round p e) ≤ length (now output)))
+        × (at + sizes (roundFields p e) ≤ length (now output)))
         ⌝ }
     ensures { λ n. ⌜
-        (n ≡ at + sizes (round p e))
+        (n ≡ at + sizes (roundFields p e))
         × (now (output .exit) ≡ put (now (output .entry)) at
         (roundOf p e
         (showing (now (commitment .entry)) (now (transcript .entry)) (now (seed1 .entry)) (now (seed2 .entry)) (now (share .entry)))))

@@ -1,19 +1,16 @@
 // The calls that hosts make: numbers and byte slices in, one 64-bit number out. Each forwards to the crate that has its code and proof.
-ghost use lib.ListN.{length};
-ghost use Rattle.sets.specs.Sets.{numbered};
-ghost use Rattle.answers.specs.Outcome.{Promise};
-ghost use Rattle.hashing.specs.HashCall.{hashed};
-ghost use Rattle.hashing.specs.SeedsCall.{seeded};
-ghost use Rattle.challenge.specs.ChallengeCall.{challenged};
+ghost use Rattle.hashing.specs.HashCall.{HashPromise};
+ghost use Rattle.hashing.specs.SeedsCall.{SeedsPromise};
+ghost use Rattle.challenge.specs.ChallengeCall.{ChallengePromise};
 ghost use Rattle.signer.specs.Sign.{Signed};
 ghost use Rattle.verifier.specs.Verify.{Verified};
-ghost use Rattle.lowmc.specs.Calls.{encryptOutcome, publicKeyOutcome};
-ghost use Rattle.shape.specs.Reading.{read, write};
+ghost use Rattle.lowmc.specs.Calls.{EncryptPromise, PublicKeyPromise};
+ghost use Rattle.shape.specs.Reading.{ReadPromise, WritePromise};
 
 // Fills output with the SHAKE of the set, of input.
 #[no_mangle]
 pub extern "C" fn picnic_hash(set: u64, input: &[u8], output: &mut [u8]) -> u64
-    ensures { λ r. ⌜ Promise (hashed (numbered set) (now (input .entry)) (length (now (output .entry)))) (now (output .entry)) r (now (output .exit)) ⌝ }
+    ensures { λ r. ⌜ HashPromise set (now (input .entry)) (now (output .entry)) r (now (output .exit)) ⌝ }
 {
     hashing::hash(set, input, output)
 }
@@ -27,7 +24,7 @@ pub extern "C" fn picnic_seeds(
     message: &[u8],
     output: &mut [u8],
 ) -> u64
-    ensures { λ r. ⌜ Promise (seeded (numbered set) (now (secret .entry)) (now (public .entry)) (now (message .entry)) (length (now (output .entry)))) (now (output .entry)) r (now (output .exit)) ⌝ }
+    ensures { λ r. ⌜ SeedsPromise set (now (secret .entry)) (now (public .entry)) (now (message .entry)) (now (output .entry)) r (now (output .exit)) ⌝ }
 {
     hashing::seeds(set, secret, public, message, output)
 }
@@ -43,7 +40,7 @@ pub extern "C" fn picnic_encrypt(
     block: &[u8],
     output: &mut [u8],
 ) -> u64
-    ensures { λ r. ⌜ Promise (encryptOutcome (numbered set) (now (keys .entry)) (now (layers .entry)) (now (constants .entry)) (now (secret .entry)) (now (block .entry)) (length (now (output .entry)))) (now (output .entry)) r (now (output .exit)) ⌝ }
+    ensures { λ r. ⌜ EncryptPromise set (now (keys .entry)) (now (layers .entry)) (now (constants .entry)) (now (secret .entry)) (now (block .entry)) (now (output .entry)) r (now (output .exit)) ⌝ }
 {
     lowmc::encrypt_call(set, keys, layers, constants, secret, block, output)
 }
@@ -59,7 +56,7 @@ pub extern "C" fn picnic_public_key(
     block: &[u8],
     output: &mut [u8],
 ) -> u64
-    ensures { λ r. ⌜ Promise (publicKeyOutcome (numbered set) (now (keys .entry)) (now (layers .entry)) (now (constants .entry)) (now (secret .entry)) (now (block .entry)) (length (now (output .entry)))) (now (output .entry)) r (now (output .exit)) ⌝ }
+    ensures { λ r. ⌜ PublicKeyPromise set (now (keys .entry)) (now (layers .entry)) (now (constants .entry)) (now (secret .entry)) (now (block .entry)) (now (output .entry)) r (now (output .exit)) ⌝ }
 {
     lowmc::public_key_call(set, keys, layers, constants, secret, block, output)
 }
@@ -67,7 +64,7 @@ pub extern "C" fn picnic_public_key(
 // The T values of a challenge from at most limit blocks, one a byte, at the start of output.
 #[no_mangle]
 pub extern "C" fn picnic_challenge(set: u64, input: &[u8], limit: u64, output: &mut [u8]) -> u64
-    ensures { λ r. ⌜ Promise (challenged (numbered set) (now (input .entry)) limit (length (now (output .entry)))) (now (output .entry)) r (now (output .exit)) ⌝ }
+    ensures { λ r. ⌜ ChallengePromise set (now (input .entry)) limit (now (output .entry)) r (now (output .exit)) ⌝ }
 {
     challenge::challenge(set, input, limit, output)
 }
@@ -75,7 +72,7 @@ pub extern "C" fn picnic_challenge(set: u64, input: &[u8], limit: u64, output: &
 // A signature into its unpacked form, at the start of output.
 #[no_mangle]
 pub extern "C" fn picnic_read(set: u64, signature: &[u8], output: &mut [u8]) -> u64
-    ensures { λ r. ⌜ Promise (read (numbered set) (now (signature .entry)) (length (now (output .entry)))) (now (output .entry)) r (now (output .exit)) ⌝ }
+    ensures { λ r. ⌜ ReadPromise set (now (signature .entry)) (now (output .entry)) r (now (output .exit)) ⌝ }
 {
     signature::read(set, signature, output)
 }
@@ -83,7 +80,7 @@ pub extern "C" fn picnic_read(set: u64, signature: &[u8], output: &mut [u8]) -> 
 // An unpacked form into its signature, at the start of output.
 #[no_mangle]
 pub extern "C" fn picnic_write(set: u64, unpacked: &[u8], output: &mut [u8]) -> u64
-    ensures { λ r. ⌜ Promise (write (numbered set) (now (unpacked .entry)) (length (now (output .entry)))) (now (output .entry)) r (now (output .exit)) ⌝ }
+    ensures { λ r. ⌜ WritePromise set (now (unpacked .entry)) (now (output .entry)) r (now (output .exit)) ⌝ }
 {
     signature::write(set, unpacked, output)
 }
@@ -106,7 +103,7 @@ pub extern "C" fn picnic_sign(
     ensures { λ r. ⌜
         Signed
         (record {
-          set = set;
+          setNumber = set;
           keys = now (keys .entry);
           layers = now (layers .entry);
           constants = now (constants .entry);
@@ -152,7 +149,7 @@ pub extern "C" fn picnic_verify(
     ensures { λ r. ⌜
         Verified
         (record {
-          set = set;
+          setNumber = set;
           keys = now (keys .entry);
           layers = now (layers .entry);
           constants = now (constants .entry);

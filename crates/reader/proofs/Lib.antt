@@ -1,2 +1,5 @@
+pub mod BitLaws
 pub mod FollowLaws
+pub mod PositionLaws
+pub mod SettledProof
 pub mod ValueLaws

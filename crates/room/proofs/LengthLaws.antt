@@ -12,7 +12,7 @@ use Rattle.sets.specs.Sets.{IsSet}
 use Rattle.circuit.specs.Lowmc.{Cipher}
 use Rattle.circuit.specs.Round.{Party, party0, party1, party2}
 use Rattle.hashing.specs.Hashing.{commitment}
-use Rattle.challenge.proofs.BlocksLaws.{length-h}
+use Rattle.hashing.proofs.HashingLaws.{length-h}
 use Rattle.shape.specs.Form.{Shown}
 use Rattle.views.specs.Parties.{three}
 use Rattle.views.specs.Opened.{recomputedOutputs, recomputedCommitments}

@@ -16,10 +16,10 @@ use Rattle.bits.proofs.BitsLaws.{upTo-in}
 use Rattle.bits.proofs.BytesLaws.{bytes-cong}
 use Rattle.sets.specs.declared.Set.{Set}
 use Rattle.sets.specs.Sets.{IsSet}
-use Rattle.sets.specs.Lengths.{w, transcript, roomLength}
+use Rattle.sets.specs.Lengths.{w, transcriptLength, roomLength}
 use Rattle.sets.proofs.Each.{each, most}
 use Rattle.circuit.specs.Round.{Party, party0, party1, party2}
-use Rattle.circuit.specs.Tapes.{number, tapeLength}
+use Rattle.circuit.specs.Tapes.{partyNumber, tapeLength}
 use Rattle.lowmc.specs.Lent.{cipherOf}
 use Rattle.shake.specs.Sponge.{started, absorbed}
 use Rattle.challenge.specs.declared.Filled.{Filled}
@@ -33,8 +33,8 @@ use Rattle.room.specs.Room.{sharesAt, commitmentsAt}
 pub record Sizes (p : Set) : Type 0 where
   pub width : w p ≤ 32
   pub bits : p .n ≡ 8 * w p
-  pub narrower : w p ≤ transcript p
-  pub transcript : transcript p ≤ 143
+  pub narrower : w p ≤ transcriptLength p
+  pub transcript : transcriptLength p ≤ 143
   pub digest : p .digest ≤ 64
   pub rounds : p .t ≤ 438
   pub room : p .t * (3 * w p) + p .t * (3 * p .digest) ≡ roomLength p
@@ -45,8 +45,8 @@ unfolding width
 sizes h = record {
   width = most w 32 tt tt tt h;
   bits = each (λ (p : Set). p .n ≡ 8 * w p) refl refl refl h;
-  transcript = most transcript 143 tt tt tt h;
-  narrower = each (λ (p : Set). w p ≤ transcript p) (lit≤ tt) (lit≤ tt) (lit≤ tt) h;
+  transcript = most transcriptLength 143 tt tt tt h;
+  narrower = each (λ (p : Set). w p ≤ transcriptLength p) (lit≤ tt) (lit≤ tt) (lit≤ tt) h;
   digest = most (λ (p : Set). p .digest) 64 tt tt tt h;
   rounds = most (λ (p : Set). p .t) 438 tt tt tt h;
   room = each (λ (p : Set). p .t * (3 * w p) + p .t * (3 * p .digest) ≡ roomLength p) refl refl refl h;
@@ -54,14 +54,14 @@ sizes h = record {
 }
 
 -- the length of a tape, by the party's number j and the code's widths m and t
-pub tape-long : (p : Set) (j m t : ℕ) → (j ≡ 2 → ⊥) → m ≡ w p → t ≡ transcript p
-    → (keys layers constants : Bytes) (k : Party) → j ≡ number k → m + t ≡ tapeLength (cipherOf p keys layers constants) k
+pub tape-long : (p : Set) (j m t : ℕ) → (j ≡ 2 → ⊥) → m ≡ w p → t ≡ transcriptLength p
+    → (keys layers constants : Bytes) (k : Party) → j ≡ partyNumber k → m + t ≡ tapeLength (cipherOf p keys layers constants) k
 tape-long p j m t h a b keys layers constants party0 e = ap₂ _+_ a b
 tape-long p j m t h a b keys layers constants party1 e = ap₂ _+_ a b
 tape-long p j m t h a b keys layers constants party2 e = absurd (h e)
 
-pub tape-short : (p : Set) (j t : ℕ) → j ≡ 2 → t ≡ transcript p
-    → (keys layers constants : Bytes) (k : Party) → j ≡ number k → t ≡ tapeLength (cipherOf p keys layers constants) k
+pub tape-short : (p : Set) (j t : ℕ) → j ≡ 2 → t ≡ transcriptLength p
+    → (keys layers constants : Bytes) (k : Party) → j ≡ partyNumber k → t ≡ tapeLength (cipherOf p keys layers constants) k
 tape-short p j t h b keys layers constants party0 e = absurd (omega arith)
 tape-short p j t h b keys layers constants party1 e = absurd (omega arith)
 tape-short p j t h b keys layers constants party2 e = b

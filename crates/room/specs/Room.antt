@@ -12,15 +12,15 @@ use Rattle.answers.specs.Answers.{number}
 
 -- the output shares of round t
 abbrev pub sharesAt : Set → ℕ → ℕ
-sharesAt p t = t * (3 * w p)
+sharesAt set t = t * (3 * w set)
 
 -- its commitments, behind all output shares
 abbrev pub commitmentsAt : Set → ℕ → ℕ
-commitmentsAt p t = p .t * (3 * w p) + t * (3 * p .digest)
+commitmentsAt set t = set .t * (3 * w set) + t * (3 * set .digest)
 
 -- the room with both of round t put
 abbrev pub withRound : Set → ℕ → (shares commitments room : Bytes) → Bytes
-withRound p t shares commitments room = put (put room (sharesAt p t) shares) (commitmentsAt p t) commitments
+withRound set t shares commitments room = put (put room (sharesAt set t) shares) (commitmentsAt set t) commitments
 
 -- 0, 8 and 12 set the needed bytes of the room to zero
 unfoldable pub clears : Refusal → Bool
@@ -29,4 +29,4 @@ clears r = eqb (number r) 0 || eqb (number r) 8 || eqb (number r) 12
 -- and keep the rest; every other number keeps it all
 unfoldable pub roomAfter : Chosen → Refusal → (room : Bytes) → Bytes
 roomAfter Unknown r room = room
-roomAfter (Known p) r room = cond (clears r) (cleared (roomLength p) room) room
+roomAfter (Known set) r room = cond (clears r) (cleared (roomLength set) room) room

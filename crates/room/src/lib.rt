@@ -8,9 +8,9 @@ ghost use Rattle.bits.specs.Bytes.{bytesOf};
 ghost use Rattle.bits.specs.Words.{blockBits};
 ghost use Rattle.bits.specs.Rows.{Rows, flat, Rowed};
 ghost use Rattle.sets.specs.Sets.{IsSet};
-ghost use Rattle.sets.specs.Lengths.{w, transcript, roomLength};
+ghost use Rattle.sets.specs.Lengths.{w, transcriptLength, roomLength};
 ghost use Rattle.circuit.specs.Round.{Party};
-ghost use Rattle.circuit.specs.Tapes.{number, tapeLength};
+ghost use Rattle.circuit.specs.Tapes.{partyNumber, tapeLength};
 ghost use Rattle.lowmc.specs.Lent.{cipherOf};
 ghost use Rattle.round.specs.Engine.{Written};
 ghost use Rattle.hashing.specs.Hashing.{h, commitment};
@@ -28,7 +28,7 @@ use sets::Set;
 pub fn tape_length(p: Set, j: usize) -> usize
     requires { ⌜ IsSet p ⌝ }
     ensures { λ n. ⌜
-        (n ≤ 175) × ((keys layers constants : Bytes) (k : Party) → j ≡ number k → n ≡ tapeLength (cipherOf p keys layers constants) k) × (w p ≤ n)
+        (n ≤ 175) × ((keys layers constants : Bytes) (k : Party) → j ≡ partyNumber k → n ≡ tapeLength (cipherOf p keys layers constants) k) × (w p ≤ n)
         ⌝ }
 {
     let m = p.transcript();
@@ -41,7 +41,7 @@ pub fn tape_length(p: Set, j: usize) -> usize
 // The tape of party j in round t, at the start of an array.
 pub fn party_tape(p: Set, seed: &[u8], salt: &[u8], t: usize, j: usize) -> [u8; 175]
     requires { ⌜ IsSet p × (t < 65536) × (j < 3) ⌝ }
-    ensures { λ r. ⌜ ((keys layers constants : Bytes) (k : Party) → j ≡ number k
+    ensures { λ r. ⌜ ((keys layers constants : Bytes) (k : Party) → j ≡ partyNumber k
         → take (tapeLength (cipherOf p keys layers constants) k) r
         ≡ tapeOf p (cipherOf p keys layers constants) (now (salt .entry)) t k (now (seed .entry))) ⌝ }
 {
@@ -95,7 +95,7 @@ pub fn stored(p: Set, x: Block) -> [u8; 32]
 // The rows of a transcript as bytes, at the start of an array.
 pub fn transcribed(p: Set, said: Strip) -> [u8; 143]
     requires { ⌜ IsSet p × Rowed (3 * p .s) (p .r) (said .words) ⌝ }
-    ensures { λ r. ⌜ ((u : Rows) → Written (3 * p .s) (p .r) u (said .words) → take (transcript p) r ≡ bytesOf (3 * p .s * p .r) (flat (3 * p .s) u)) ⌝ }
+    ensures { λ r. ⌜ ((u : Rows) → Written (3 * p .s) (p .r) u (said .words) → take (transcriptLength p) r ≡ bytesOf (3 * p .s * p .r) (flat (3 * p .s) u)) ⌝ }
 {
     let m = p.transcript();
     let mut s = [0u8; 143];

@@ -19,7 +19,7 @@ use Rattle.sets.specs.Sets.{IsSet}
 use Rattle.sets.proofs.Each.{each}
 use Rattle.circuit.specs.Round.{Party, party0, party1, party2, next}
 use Rattle.circuit.specs.RoundTheorems.{xor3}
-use Rattle.circuit.specs.Tapes.{number, tapeRows}
+use Rattle.circuit.specs.Tapes.{partyNumber, tapeRows}
 use Rattle.round.specs.Engine.{Written}
 use Rattle.round.specs.Inputs.{inputShare, Taped}
 
@@ -37,14 +37,14 @@ row-of m at i f x e = e ∙ upTo-cong m _ _ (λ j b. ap f (omega arith))
 
 module _ (p : Set) (k : ℕ) (tape : Bytes) (ws : List ℕ) where
   -- party 2's rows begin at bit 0
-  pub taped-two : k ≡ 2 → ((i : ℕ) → i < p .r → rowsOf ws i ≡ cut (3 * p .s) (from 0 (bitsOf tape)) i) → (j : Party) → k ≡ number j → Taped p j tape ws
+  pub taped-two : k ≡ 2 → ((i : ℕ) → i < p .r → rowsOf ws i ≡ cut (3 * p .s) (from 0 (bitsOf tape)) i) → (j : Party) → k ≡ partyNumber j → Taped p j tape ws
   unfolding tapeRows
   taped-two e h party0 q keys layers constants i l = absurd (omega arith)
   taped-two e h party1 q keys layers constants i l = absurd (omega arith)
   taped-two e h party2 q keys layers constants i l = h i l
 
   -- those of parties 0 and 1 at bit n
-  pub taped-other : (k ≡ 2 → ⊥) → ((i : ℕ) → i < p .r → rowsOf ws i ≡ cut (3 * p .s) (from (p .n) (bitsOf tape)) i) → (j : Party) → k ≡ number j → Taped p j tape ws
+  pub taped-other : (k ≡ 2 → ⊥) → ((i : ℕ) → i < p .r → rowsOf ws i ≡ cut (3 * p .s) (from (p .n) (bitsOf tape)) i) → (j : Party) → k ≡ partyNumber j → Taped p j tape ws
   unfolding tapeRows
   taped-other e h party0 q keys layers constants i l = h i l
   taped-other e h party1 q keys layers constants i l = h i l
@@ -57,7 +57,7 @@ unfolding cut
 from-start p s ws h i l = h i l ∙ upTo-cong (3 * p .s) _ _ (λ j b. ap (bitsOf s) (zero-add (i * (3 * p .s) + j)))
 
 -- the number of the next party
-pub next-number : (k : ℕ) (j : Party) → k ≡ number j → (k + 1) % 3 ≡ number (next j)
+pub next-number : (k : ℕ) (j : Party) → k ≡ partyNumber j → (k + 1) % 3 ≡ partyNumber (next j)
 next-number k party0 e = ap (λ (z : ℕ). (z + 1) % 3) e
 next-number k party1 e = ap (λ (z : ℕ). (z + 1) % 3) e
 next-number k party2 e = ap (λ (z : ℕ). (z + 1) % 3) e

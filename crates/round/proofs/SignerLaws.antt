@@ -10,12 +10,11 @@ use Rattle.bits.specs.Words.{wordBits}
 use Rattle.bits.specs.Rows.{Rows}
 use Rattle.bits.proofs.BitsLaws.{⊕-rules}
 use Rattle.circuit.specs.Lowmc.{Cipher, start, stateAfter}
-use Rattle.circuit.specs.Round.{Party, party0, party1, party2, next, gates, advance, intoShare, stateShare, transcript, outputShare}
+use Rattle.circuit.specs.Round.{Party, party0, party1, party2, next, gates, advance, intoShare, stateShare, transcript, outputShare, byParty}
 use Rattle.circuit.specs.RoundTheorems.{xor3}
 use Rattle.circuit.proofs.RoundLaws.{signer-follows}
-use Rattle.round.specs.Engine.{Written, Simulated, share, said}
+use Rattle.round.specs.Engine.{Written, Simulated, shareIn, said}
 use Rattle.round.specs.Inner.{Begun, Stepped}
-use Rattle.round.specs.Inputs.{byParty}
 use Rattle.round.specs.declared.View.{View}
 use Rattle.round.proofs.GateLaws.{advance-row}
 use Rattle.round.proofs.EngineLaws.{three, written-none, written-more}
@@ -102,7 +101,7 @@ module _ (C : Cipher) (p : Bits) (x : Party → Bits) (t : Party → Rows) where
       }
 
   -- all rounds
-  pub done-all : (i : ℕ) → i ≡ C .r → (v : View) → Done C p x t i (share (v .out)) (v .a .words) (v .b .words) (v .c .words)
+  pub done-all : (i : ℕ) → i ≡ C .r → (v : View) → Done C p x t i (shareIn (v .out)) (v .a .words) (v .b .words) (v .c .words)
       → Simulated C p x t v
   unfolding outputShare
   done-all i q v d = record {

@@ -12,8 +12,8 @@ use Rattle.bits.specs.Bits.{Bits, zeros, upTo}
 use Rattle.bits.specs.Words.{wordBits, blockBits}
 use Rattle.circuit.specs.Lowmc.{Cipher, start}
 use Rattle.circuit.specs.Round.{Party, party0, party1, party2, gates, advance, intoFirst, intoSecond, Opening, state₁, state₂, transcript₁, output₁, output₂}
-use Rattle.circuit.specs.Tapes.{number}
-use Rattle.round.specs.Engine.{Written, Recomputed}
+use Rattle.circuit.specs.Tapes.{partyNumber}
+use Rattle.round.specs.Engine.{Written, RecomputedAs}
 use Rattle.round.specs.declared.Again.{Again}
 use Rattle.round.proofs.GateLaws.{advance-row}
 use Rattle.round.proofs.EngineLaws.{written-none, written-more, written-cong}
@@ -24,10 +24,10 @@ pub record Goes (a b : Bool) (e : Party) : Type 0 where
   pub second : (c : Bits) → cond b c zeros ≡ intoSecond e c
 
 -- as the code decides it
-pub goes : (k : ℕ) (e : Party) → k ≡ number e → Goes (eqb k 0) (eqb k 2) e
+pub goes : (k : ℕ) (e : Party) → k ≡ partyNumber e → Goes (eqb k 0) (eqb k 2) e
 goes k e h = subst (λ (z : ℕ). Goes (eqb z 0) (eqb z 2) e) (sym h) (of e)
   where
-    of : (e : Party) → Goes (eqb (number e) 0) (eqb (number e) 2) e
+    of : (e : Party) → Goes (eqb (partyNumber e) 0) (eqb (partyNumber e) 2) e
     of party0 = record { first = λ c. refl; second = λ c. refl }
     of party1 = record { first = λ c. refl; second = λ c. refl }
     of party2 = record { first = λ c. refl; second = λ c. refl }
@@ -74,7 +74,7 @@ module _ (C : Cipher) (p : Bits) (e : Party) (o : Opening) (a b : Bool) (h : Goe
 
 -- all rounds
 pub followed-all : (C : Cipher) (p : Bits) (e : Party) (o : Opening) (i : ℕ) → i ≡ C .r → (v : Again)
-    → Followed C p e o i (blockBits (v .first)) (blockBits (v .second)) (v .said .words) → Recomputed C p e o v
+    → Followed C p e o i (blockBits (v .first)) (blockBits (v .second)) (v .said .words) → RecomputedAs C p e o v
 unfolding output₁ output₂
 followed-all C p e o i q v d = record {
   first = d .first ∙ ap (state₁ C p e o) q;
@@ -122,7 +122,7 @@ module _ (C : Cipher) (p : Bits) (e : Party) (o q : Opening) (h : Alike C o q) w
       let u = h .tape₂ i l in
       λ k. gates (a k) (b k) (t k) (u k)
 
-  pub recomputed-cong : (v : Again) → Recomputed C p e o v → Recomputed C p e q v
+  pub recomputed-cong : (v : Again) → RecomputedAs C p e o v → RecomputedAs C p e q v
   unfolding output₁ output₂
   recomputed-cong v d = record {
     first = d .first ∙ first-same (C .r) (le-refl (C .r));

@@ -1,4 +1,5 @@
--- What the engine's values say: shares and rows of gates by party; and what a simulation and a recomputation leave.
+-- Cited by inner contracts alone: what the engine's values say, shares and rows of gates by party, and what a simulation and a
+-- recomputation leave.
 use mathlib.Core.Path.{_≡_}
 use mathlib.Core.List.{List, [], _∷_}
 use Prim.Native.Nat.{ℕ, _+_, _*_, _<_, _≤_}
@@ -16,10 +17,10 @@ use Rattle.round.specs.declared.View.{View}
 use Rattle.round.specs.declared.Again.{Again}
 
 -- the bits of a party's block
-abbrev pub share : Shares → Party → Bits
-share s party0 = blockBits (s .a)
-share s party1 = blockBits (s .b)
-share s party2 = blockBits (s .c)
+abbrev pub shareIn : Shares → Party → Bits
+shareIn s party0 = blockBits (s .a)
+shareIn s party1 = blockBits (s .b)
+shareIn s party2 = blockBits (s .c)
 
 -- the word of a party's row
 abbrev pub word : Gates → Party → ℕ
@@ -44,7 +45,7 @@ stateOf ws i = listBits (getD ws (4 * i) 0 ∷ getD ws (4 * i + 1) 0 ∷ getD ws
 
 -- words that hold the states of the encryption of p under the key
 abbrev pub Traced : Cipher → (key p : Bits) → List ℕ → Type 0
-Traced C key p ws = (i : ℕ) → i ≤ C .r → stateOf ws i ≡ stateAfter C key p i
+Traced L key p ws = (i : ℕ) → i ≤ L .r → stateOf ws i ≡ stateAfter L key p i
 
 -- the words of the transcript that a simulation leaves for a party
 abbrev pub said : View → Party → List ℕ
@@ -53,15 +54,15 @@ said v party1 = v .b .words
 said v party2 = v .c .words
 
 -- a simulation's output shares and transcripts
-pub record Simulated (C : Cipher) (p : Bits) (x : Party → Bits) (t : Party → Rows) (v : View) : Type 0 where
-  pub outputs : (j : Party) → share (v .out) j ≡ outputShare C p x t j
-  pub transcripts : (j : Party) → Written (3 * C .s) (C .r) (transcript C p x t j) (said v j)
+pub record Simulated (L : Cipher) (p : Bits) (x : Party → Bits) (t : Party → Rows) (v : View) : Type 0 where
+  pub outputs : (j : Party) → shareIn (v .out) j ≡ outputShare L p x t j
+  pub transcripts : (j : Party) → Written (3 * L .s) (L .r) (transcript L p x t j) (said v j)
 
 -- ---- the verifier
 
 -- what is opened: input shares, rows of tapes, and the second party's transcript
-abbrev pub opening : (share1 share2 : Block) (tape1 tape2 given : Strip) → Opening
-opening share1 share2 tape1 tape2 given = record {
+abbrev pub openingOnWords : (share1 share2 : Block) (tape1 tape2 given : Strip) → Opening
+openingOnWords share1 share2 tape1 tape2 given = record {
   share₁ = blockBits share1;
   share₂ = blockBits share2;
   tape₁ = rowsOf (tape1 .words);
@@ -70,7 +71,7 @@ opening share1 share2 tape1 tape2 given = record {
 }
 
 -- a recomputation's output shares and transcript
-pub record Recomputed (C : Cipher) (p : Bits) (e : Party) (o : Opening) (v : Again) : Type 0 where
-  pub first : blockBits (v .first) ≡ output₁ C p e o
-  pub second : blockBits (v .second) ≡ output₂ C p e o
-  pub transcript : Written (3 * C .s) (C .r) (transcript₁ C p e o) (v .said .words)
+pub record RecomputedAs (L : Cipher) (p : Bits) (e : Party) (o : Opening) (v : Again) : Type 0 where
+  pub first : blockBits (v .first) ≡ output₁ L p e o
+  pub second : blockBits (v .second) ≡ output₂ L p e o
+  pub transcript : Written (3 * L .s) (L .r) (transcript₁ L p e o) (v .said .words)

@@ -10,14 +10,14 @@ ghost use Rattle.bits.specs.Bytes.{bitsOf, bytesOf};
 ghost use Rattle.bits.specs.Words.{wordBits, blockBits};
 ghost use Rattle.bits.specs.Rows.{Rows, cut, flat, rowsOf, Rowed};
 ghost use Rattle.sets.specs.Sets.{IsSet};
-ghost use Rattle.sets.specs.Lengths.{w, transcript};
+ghost use Rattle.sets.specs.Lengths.{w, transcriptLength};
 ghost use Rattle.circuit.specs.Lowmc.{start};
 ghost use Rattle.circuit.specs.Gates.{sboxesBy};
 ghost use Rattle.circuit.specs.Round.{Party, party0, party1, party2, next, gates, advance};
 ghost use Rattle.circuit.specs.RoundTheorems.{xor3};
-ghost use Rattle.circuit.specs.Tapes.{number};
+ghost use Rattle.circuit.specs.Tapes.{partyNumber};
 ghost use Rattle.lowmc.specs.Lent.{cipherOf, Lent};
-ghost use Rattle.round.specs.Engine.{share, rowOf, Written, opening, Recomputed, stateOf, Traced, Simulated};
+ghost use Rattle.round.specs.Engine.{shareIn, rowOf, Written, openingOnWords, RecomputedAs, stateOf, Traced, Simulated};
 ghost use Rattle.round.specs.Inner.{Begun, Stepped};
 ghost use Rattle.round.specs.Inputs.{inputShare, Taped, tapesOf, openingOf};
 use bits::Block;
@@ -63,7 +63,7 @@ fn gate_row(p: Set, x: Block, y: Block, t: u64, u: u64) -> u64
 // The gates of a layer for the three parties.
 fn gate_rows(p: Set, s: Shares, t: Gates) -> Gates
     requires { ⌜ IsSet p ⌝ }
-    ensures { λ r. ⌜ ((j : Party) → rowOf r j ≡ upTo (3 * p .s) (gates (share s j) (share s (next j)) (rowOf t j) (rowOf t (next j)))) ⌝ }
+    ensures { λ r. ⌜ ((j : Party) → rowOf r j ≡ upTo (3 * p .s) (gates (shareIn s j) (shareIn s (next j)) (rowOf t j) (rowOf t (next j)))) ⌝ }
 {
     let x = s.a;
     let y = s.b;
@@ -177,8 +177,8 @@ pub fn recompute(
     given: Strip,
 ) -> Again
     requires { ⌜ Lent p (now keys) (now layers) (now constants) ⌝ }
-    ensures { λ r. ⌜ ((j : Party) → e ≡ number j → Recomputed (cipherOf p (now (keys .entry)) (now (layers .entry)) (now (constants .entry))) (blockBits plain) j
-        (opening share1 share2 tape1 tape2 given) r) ⌝ }
+    ensures { λ r. ⌜ ((j : Party) → e ≡ partyNumber j → RecomputedAs (cipherOf p (now (keys .entry)) (now (layers .entry)) (now (constants .entry))) (blockBits plain) j
+        (openingOnWords share1 share2 tape1 tape2 given) r) ⌝ }
 {
     let r = p.r;
     let in1 = e == 0;
@@ -260,7 +260,7 @@ pub fn all_states(
 
 // The blocks of the first two parties.
 fn first_two(s: Shares) -> Pair
-    ensures { λ r. ⌜ (blockBits (r .a) ≡ share s party0) × (blockBits (r .b) ≡ share s party1) ⌝ }
+    ensures { λ r. ⌜ (blockBits (r .a) ≡ shareIn s party0) × (blockBits (r .b) ≡ shareIn s party1) ⌝ }
 {
     let a = s.a;
     let b = s.b;
@@ -270,8 +270,8 @@ fn first_two(s: Shares) -> Pair
 // The states of two parties, and the third's: what they lack of the encryption's.
 fn with_third(x: Pair, whole: Block) -> Shares
     ensures { λ r. ⌜
-        (share r party0 ≡ blockBits (x .a)) × (share r party1 ≡ blockBits (x .b))
-        × (share r party2 ≡ blockBits whole ⊕ blockBits (x .a) ⊕ blockBits (x .b))
+        (shareIn r party0 ≡ blockBits (x .a)) × (shareIn r party1 ≡ blockBits (x .b))
+        × (shareIn r party2 ≡ blockBits whole ⊕ blockBits (x .a) ⊕ blockBits (x .b))
         ⌝ }
 {
     let a = x.a;
@@ -291,7 +291,7 @@ fn begin(
     whole: Block,
 ) -> Shares
     requires { ⌜ Lent p (now keys) (now layers) (now constants) ⌝ }
-    ensures { λ r. ⌜ Begun (cipherOf p (now (keys .entry)) (now (layers .entry)) (now (constants .entry))) (blockBits plain) (share x) (blockBits whole) (share r) ⌝ }
+    ensures { λ r. ⌜ Begun (cipherOf p (now (keys .entry)) (now (layers .entry)) (now (constants .entry))) (blockBits plain) (shareIn x) (blockBits whole) (shareIn r) ⌝ }
 {
     let a = first_two(x);
     let y = start_shares(p, keys, layers, constants, a, true, false, plain);
@@ -311,7 +311,7 @@ fn step(
     whole: Block,
 ) -> Shares
     requires { ⌜ Lent p (now keys) (now layers) (now constants) × (i < p .r) ⌝ }
-    ensures { λ r. ⌜ Stepped (cipherOf p (now (keys .entry)) (now (layers .entry)) (now (constants .entry))) i (share x) (share s) (rowOf g) (blockBits whole) (share r) ⌝ }
+    ensures { λ r. ⌜ Stepped (cipherOf p (now (keys .entry)) (now (layers .entry)) (now (constants .entry))) i (shareIn x) (shareIn s) (rowOf g) (blockBits whole) (shareIn r) ⌝ }
 {
     let a = first_two(x);
     let b = first_two(s);
@@ -363,8 +363,8 @@ pub fn simulate(
     states: &[u64],
 ) -> View
     requires { ⌜ Lent p (now keys) (now layers) (now constants)
-        × Traced (cipherOf p (now keys) (now layers) (now constants)) (xor3 (share x)) (blockBits plain) (now states) × (length (now states) ≡ 160) ⌝ }
-    ensures { λ r. ⌜ Simulated (cipherOf p (now (keys .entry)) (now (layers .entry)) (now (constants .entry))) (blockBits plain) (share x)
+        × Traced (cipherOf p (now keys) (now layers) (now constants)) (xor3 (shareIn x)) (blockBits plain) (now states) × (length (now states) ≡ 160) ⌝ }
+    ensures { λ r. ⌜ Simulated (cipherOf p (now (keys .entry)) (now (layers .entry)) (now (constants .entry))) (blockBits plain) (shareIn x)
         (tapesOf (cipherOf p (now (keys .entry)) (now (layers .entry)) (now (constants .entry))) (now (t0 .entry)) (now (t1 .entry)) (now (t2 .entry))) r ⌝ }
 {
     let r = p.r;
@@ -401,7 +401,7 @@ pub fn rows_from(p: Set, s: &[u8], at: usize) -> Strip
 // The rows of the gates of party k on its tape: from bit n on for parties 0 and 1, from bit 0 on for party 2.
 pub fn tape_rows(p: Set, k: usize, tape: &[u8]) -> Strip
     requires { ⌜ IsSet p ⌝ }
-    ensures { λ r. ⌜ ((j : Party) → k ≡ number j → Taped p j (now (tape .entry)) (r .words)) ⌝ }
+    ensures { λ r. ⌜ ((j : Party) → k ≡ partyNumber j → Taped p j (now (tape .entry)) (r .words)) ⌝ }
 {
     if k == 2 {
         return rows_from(p, tape, 0);
@@ -421,7 +421,7 @@ pub fn tape_share(p: Set, tape: &[u8]) -> Block
 // The input shares of a key: two from the tapes 0 and 1, the third by exclusive or.
 pub fn input_shares(p: Set, key: Block, t0: &[u8], t1: &[u8]) -> Shares
     requires { ⌜ IsSet p × (w p ≤ length (now t0)) × (w p ≤ length (now t1)) ⌝ }
-    ensures { λ r. ⌜ ((j : Party) → share r j ≡ inputShare (p .n) (blockBits key) (now (t0 .entry)) (now (t1 .entry)) j) ⌝ }
+    ensures { λ r. ⌜ ((j : Party) → shareIn r j ≡ inputShare (p .n) (blockBits key) (now (t0 .entry)) (now (t1 .entry)) j) ⌝ }
 {
     let a = tape_share(p, t0);
     let b = tape_share(p, t1);
@@ -431,7 +431,7 @@ pub fn input_shares(p: Set, key: Block, t0: &[u8], t1: &[u8]) -> Shares
 
 // The transcript t as bytes, with zero bits to the byte.
 pub fn write_rows(p: Set, t: Strip, s: &mut [u8])
-    requires { ⌜ IsSet p × (length (now s) ≡ transcript p) × Rowed (3 * p .s) (p .r) (t .words) ⌝ }
+    requires { ⌜ IsSet p × (length (now s) ≡ transcriptLength p) × Rowed (3 * p .s) (p .r) (t .words) ⌝ }
     ensures { λ _. ⌜ ((u : Rows) → Written (3 * p .s) (p .r) u (t .words) → now (s .exit) ≡ bytesOf (3 * p .s * p .r) (flat (3 * p .s) u)) ⌝ }
 {
     t.write(3 * p.s, p.r, s);
@@ -452,7 +452,7 @@ pub fn recompute_tapes(
     given: &[u8],
 ) -> Again
     requires { ⌜ Lent p (now keys) (now layers) (now constants) × (e < 3) ⌝ }
-    ensures { λ r. ⌜ ((j : Party) → e ≡ number j → Recomputed (cipherOf p (now (keys .entry)) (now (layers .entry)) (now (constants .entry))) (blockBits plain) j
+    ensures { λ r. ⌜ ((j : Party) → e ≡ partyNumber j → RecomputedAs (cipherOf p (now (keys .entry)) (now (layers .entry)) (now (constants .entry))) (blockBits plain) j
         (openingOf (cipherOf p (now (keys .entry)) (now (layers .entry)) (now (constants .entry))) j (blockBits share1) (blockBits share2)
         (now (tape1 .entry)) (now (tape2 .entry)) (now (given .entry))) r) ⌝ }
 {

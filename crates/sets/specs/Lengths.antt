@@ -5,59 +5,63 @@ use Rattle.sets.specs.declared.Set.{Set}
 
 -- w, the width of a block, a key or a share
 abbrev pub w : Set → ℕ
-w p = width (p .n)
+w set = width (set .n)
 
 -- the width of a seed
 abbrev pub seedWidth : Set → ℕ
-seedWidth p = width (p .seed)
+seedWidth set = width (set .seed)
 
 -- the salt
-abbrev pub salt : ℕ
-salt = 32
+abbrev pub saltLength : ℕ
+saltLength = 32
 
--- a transcript: the AND gates of all S-boxes, three each, with zero bits to the byte
-abbrev pub transcript : Set → ℕ
-transcript p = width (3 * p .s * p .r)
+-- the bits of a transcript: one a gate, three AND gates an S-box, s S-boxes a round of LowMC
+abbrev pub transcriptBits : Set → ℕ
+transcriptBits set = 3 * set .s * set .r
+
+-- a transcript: these, with zero bits to the byte
+abbrev pub transcriptLength : Set → ℕ
+transcriptLength set = width (transcriptBits set)
 
 -- a header: 2T bits, with zero bits to the byte
-abbrev pub header : Set → ℕ
-header p = width (2 * p .t)
+abbrev pub headerLength : Set → ℕ
+headerLength set = width (2 * set .t)
 
 -- key tables: (r+1)·n·w
 abbrev pub keysLength : Set → ℕ
-keysLength p = (p .r + 1) * p .n * w p
+keysLength set = (set .r + 1) * set .n * w set
 
 -- layer tables: r·n·w
 abbrev pub layersLength : Set → ℕ
-layersLength p = p .r * p .n * w p
+layersLength set = set .r * set .n * w set
 
 -- round constants: r·w
 abbrev pub constantsLength : Set → ℕ
-constantsLength p = p .r * w p
+constantsLength set = set .r * w set
 
 -- a public key: ciphertext, then plaintext
 abbrev pub publicLength : Set → ℕ
-publicLength p = 2 * w p
+publicLength set = 2 * w set
 
 -- seeds: three for each round, then the salt
 abbrev pub seedsLength : Set → ℕ
-seedsLength p = 3 * p .t * seedWidth p + salt
+seedsLength set = 3 * set .t * seedWidth set + saltLength
 
 -- working room: 9·T·w
 abbrev pub roomLength : Set → ℕ
-roomLength p = 9 * p .t * w p
+roomLength set = 9 * set .t * w set
 
 -- a round in a signature: commitment, transcript, two seeds; and with an input share
 abbrev pub roundLeast : Set → ℕ
-roundLeast p = p .digest + transcript p + 2 * seedWidth p
+roundLeast set = set .digest + transcriptLength set + 2 * seedWidth set
 
 abbrev pub roundMost : Set → ℕ
-roundMost p = roundLeast p + w p
+roundMost set = roundLeast set + w set
 
 -- the longest signature: header, salt, and every round with an input share
 abbrev pub longest : Set → ℕ
-longest p = header p + salt + p .t * roundMost p
+longest set = headerLength set + saltLength + set .t * roundMost set
 
 -- the unpacked form: T values, one a byte, the salt, and every round with a place for an input share
 abbrev pub unpackedLength : Set → ℕ
-unpackedLength p = p .t + salt + p .t * roundMost p
+unpackedLength set = set .t + saltLength + set .t * roundMost set

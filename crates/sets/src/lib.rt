@@ -1,7 +1,7 @@
 // The parameter sets: the numbers of a set belong to the set and are asked of it by name.
 ghost use mathlib.Core.Path.{_≡_};
 ghost use Rattle.sets.specs.Sets.{l1, l3, l5, IsSet, numbered};
-ghost use Rattle.sets.specs.Lengths.{w, seedWidth, transcript, header, keysLength, layersLength, constantsLength, publicLength, seedsLength, roomLength, roundLeast, roundMost, longest, unpackedLength};
+ghost use Rattle.sets.specs.Lengths.{w, seedWidth, transcriptLength, headerLength, keysLength, layersLength, constantsLength, publicLength, seedsLength, roomLength, roundLeast, roundMost, longest, unpackedLength};
 
 pub struct Set {
     // Bits of a block of LowMC.
@@ -106,14 +106,14 @@ impl Set {
 
     pub fn transcript(self) -> usize
         requires { ⌜ IsSet self ⌝ }
-        ensures { λ k. ⌜ k ≡ transcript self ⌝ }
+        ensures { λ k. ⌜ k ≡ transcriptLength self ⌝ }
     {
         (3 * self.s * self.r + 7) / 8
     }
 
     pub fn header(self) -> usize
         requires { ⌜ IsSet self ⌝ }
-        ensures { λ k. ⌜ k ≡ header self ⌝ }
+        ensures { λ k. ⌜ k ≡ headerLength self ⌝ }
     {
         (2 * self.t + 7) / 8
     }

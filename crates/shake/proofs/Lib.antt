@@ -3,4 +3,3 @@ pub mod OctetsLaws
 pub mod StateLaws
 pub mod SpongeLaws
 pub mod ShakeLaws
-pub mod CallerLaws

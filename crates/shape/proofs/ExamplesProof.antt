@@ -12,9 +12,9 @@ use Rattle.sets.specs.Sets.{l1}
 use Rattle.sets.proofs.Each.{each}
 use Rattle.answers.specs.Answers.{first}
 use Rattle.answers.specs.Outcome.{unless}
-use Rattle.shape.specs.Fields.{sizes, unpack, all, padded, clean}
+use Rattle.shape.specs.Fields.{sizes, unpack, all, zeroPadded, clean}
 use Rattle.shape.specs.Header.{place, pairBits, headerOf, valueAt, values}
-use Rattle.shape.specs.Rounds.{round, rounds, signatureLength}
+use Rattle.shape.specs.Rounds.{roundFields, roundsFields, signatureLength}
 use Rattle.shape.specs.Form.{form}
 use Rattle.shape.specs.Reading.{headerWrong, paddingWrong, readChecks, reading}
 use Rattle.shape.specs.Examples.{P12, LengthsOfSet1, LastHeaderByte, OneByteShort, OneByteLong, ZerosAreRead, LowBitOfTranscript}
@@ -26,16 +26,16 @@ unfolding P12 headerOf bytesOf bytes joined upTo pairBits place bit odd value wi
 p12 p q vs = each (λ (p : Set). take 1 (headerOf p (0 ∷ 1 ∷ 2 ∷ 0 ∷ vs)) ≡ 0x24 ∷ []) refl refl refl q
 
 pub last-header-byte : LastHeaderByte
-unfolding LastHeaderByte odd bit bitsOf value width joined all padded place valueAt values headerWrong readChecks reading first unless
+unfolding LastHeaderByte odd bit bitsOf value width joined all zeroPadded place valueAt values headerWrong readChecks reading first unless
 last-header-byte = (refl, (refl, refl))
 
-zero-rounds : (k : ℕ) → sizes (rounds l1 (replicate k 0)) ≡ k * 139
-unfolding rounds sizes round width
+zero-rounds : (k : ℕ) → sizes (roundsFields l1 (replicate k 0)) ≡ k * 139
+unfolding roundsFields sizes roundFields width
 zero-rounds zero = refl
-zero-rounds (suc k) = omega (arith, sizes-append (rounds l1 (replicate k 0)) (round l1 0), zero-rounds k)
+zero-rounds (suc k) = omega (arith, sizes-append (roundsFields l1 (replicate k 0)) (roundFields l1 0), zero-rounds k)
 
 pub lengths-of-set-1 : LengthsOfSet1
-unfolding LengthsOfSet1 rounds sizes width
+unfolding LengthsOfSet1 roundsFields sizes width
 lengths-of-set-1 = (omega (arith, zero-rounds 219), one)
   where
     one : (k j e : ℕ) → k + (1 + j) ≡ 219 → (e ≡ 0 → ⊥) → signatureLength l1 (replicate k 0 ++ (e ∷ replicate j 0)) ≡ 30544
@@ -43,25 +43,25 @@ lengths-of-set-1 = (omega (arith, zero-rounds 219), one)
         omega (
           arith,
           ap sizes (rounds-append l1 (replicate k 0) (e ∷ replicate j 0)),
-          sizes-append (rounds l1 (e ∷ replicate j 0)) (rounds l1 (replicate k 0)),
-          sizes-append (rounds l1 (replicate j 0)) (round l1 e),
+          sizes-append (roundsFields l1 (e ∷ replicate j 0)) (roundsFields l1 (replicate k 0)),
+          sizes-append (roundsFields l1 (replicate j 0)) (roundFields l1 e),
           sizes-other l1 e z,
           zero-rounds k,
           zero-rounds j,
         )
 
 pub one-byte-short : OneByteShort
-unfolding OneByteShort odd bit bitsOf value width joined all padded place valueAt values headerWrong readChecks reading first unless sizes round rounds
+unfolding OneByteShort odd bit bitsOf value width joined all zeroPadded place valueAt values headerWrong readChecks reading first unless sizes roundFields roundsFields
 one-byte-short = refl
 
 pub one-byte-long : OneByteLong
-unfolding OneByteLong odd bit bitsOf value width joined all padded place valueAt values headerWrong readChecks reading first unless sizes round rounds
+unfolding OneByteLong odd bit bitsOf value width joined all zeroPadded place valueAt values headerWrong readChecks reading first unless sizes roundFields roundsFields
 one-byte-long = refl
 
 pub zeros-are-read : ZerosAreRead
-unfolding ZerosAreRead odd bit bitsOf value width joined all padded place valueAt values headerWrong readChecks reading first unless sizes round rounds paddingWrong clean form unpack
+unfolding ZerosAreRead odd bit bitsOf value width joined all zeroPadded place valueAt values headerWrong readChecks reading first unless sizes roundFields roundsFields paddingWrong clean form unpack
 zeros-are-read = refl
 
 pub low-bit-of-transcript : LowBitOfTranscript
-unfolding LowBitOfTranscript odd bit bitsOf value width joined all padded place valueAt values headerWrong readChecks reading first unless sizes round rounds paddingWrong clean
+unfolding LowBitOfTranscript odd bit bitsOf value width joined all zeroPadded place valueAt values headerWrong readChecks reading first unless sizes roundFields roundsFields paddingWrong clean
 low-bit-of-transcript = refl

@@ -7,7 +7,7 @@ use native.Mathlib.Omega.{arith}
 use lib.ListN.{length, take, drop, replicate, length-append, length-drop, length-replicate, take-append-drop}
 use lib.Seq.{take-at, drop-at, drop-drop, length-take-le, take-add}
 use Rattle.slices.specs.Slices.{Bytes, part}
-use Rattle.shape.specs.Fields.{Field, size, slot, sizes, unpack, pack, all, isZero, padded, clean, cleanSlots}
+use Rattle.shape.specs.Fields.{Field, size, slot, sizes, unpack, pack, all, isZero, zeroPadded, clean, cleanSlots}
 use Rattle.shape.proofs.PaddingLaws.{and-left, and-right, all-zero, zeros-all, padded-take, padded-front}
 
 -- bytes of all fields in the unpacked form
@@ -67,7 +67,7 @@ unpack-pack (f ∷ fs) x h c =
     let e : length (take (size f) x) ≡ size f = length-take-le (size f) x (omega arith) in
     let gap = part x (size f) (f .blank) in
     let g : length gap ≡ f .blank = length-take-le (f .blank) (drop (size f) x) (rw length-drop (omega arith)) in
-    let c2 = and-right (padded (f .bits) x) _ c in
+    let c2 = and-right (zeroPadded (f .bits) x) _ c in
     let z : replicate (f .blank) 0 ≡ gap = ap (λ (n : ℕ). replicate n 0) (sym g) ∙ all-zero gap (and-left _ _ c2) in
     let i = unpack-pack fs (drop (slot f) x) (rw length-drop (omega arith)) (and-right (all isZero gap) _ c2) in
     rw (take-at (take (size f) x) _ (size f) e, drop-at (take (size f) x) _ (size f) e, i, z)
@@ -80,12 +80,12 @@ unfolding pack slots clean cleanSlots
 clean-pack [] x h c = refl
 clean-pack (f ∷ fs) x h c =
     let e : length (take (size f) x) ≡ size f = length-take-le (size f) x (omega arith) in
-    let c2 = and-right (padded (f .bits) x) _ c in
+    let c2 = and-right (zeroPadded (f .bits) x) _ c in
     let i = clean-pack fs (drop (slot f) x) (rw length-drop (omega arith)) (and-right (all isZero (part x (size f) (f .blank))) _ c2) in
     rw (
       padded-front (f .bits) (take (size f) x) (pack fs (drop (slot f) x)) e,
       padded-take (f .bits) x,
-      and-left (padded (f .bits) x) _ c,
+      and-left (zeroPadded (f .bits) x) _ c,
       drop-at (take (size f) x) _ (size f) e,
     ) i
 
@@ -95,11 +95,11 @@ unfolding unpack sizes clean cleanSlots
 clean-unpack [] s h c = refl
 clean-unpack (f ∷ fs) s h c =
     let e : length (take (size f) s) ≡ size f = length-take-le (size f) s (omega arith) in
-    let i = clean-unpack fs (drop (size f) s) (rw length-drop (omega arith)) (and-right (padded (f .bits) s) _ c) in
+    let i = clean-unpack fs (drop (size f) s) (rw length-drop (omega arith)) (and-right (zeroPadded (f .bits) s) _ c) in
     rw (
       padded-front (f .bits) (take (size f) s) (replicate (f .blank) 0 ++ unpack fs (drop (size f) s)) e,
       padded-take (f .bits) s,
-      and-left (padded (f .bits) s) _ c,
+      and-left (zeroPadded (f .bits) s) _ c,
       drop-at (take (size f) s) _ (size f) e,
       take-at (replicate (f .blank) 0) (unpack fs (drop (size f) s)) (f .blank) (length-replicate (f .blank) 0),
       zeros-all,

@@ -18,8 +18,8 @@ use Rattle.bits.proofs.BitsLaws.{upTo-in, upTo-out}
 use Rattle.bits.proofs.NumberLaws.{below, digit-le, digit-odd, bit-zero, value-cong, value-add}
 use Rattle.bits.proofs.BytesLaws.{at-bit, length-bytesOf, bytesOf-cong, bits-of-bytesOf, packed, packed-bytes}
 use Rattle.sets.specs.declared.Set.{Set}
-use Rattle.sets.specs.Lengths.{header}
-use Rattle.shape.specs.Fields.{padded}
+use Rattle.sets.specs.Lengths.{headerLength}
+use Rattle.shape.specs.Fields.{zeroPadded}
 use Rattle.shape.specs.Header.{place, pairBits, headerOf, valueAt, values}
 use Rattle.shape.specs.RoundTrips.{AreBytes}
 use Rattle.shape.proofs.PaddingLaws.{bits-front, bits-take, width-room, padded-front, packed-padded, padded-packed, bytes-part}
@@ -107,17 +107,17 @@ pairs-of-values p s i h =
 
 -- ---- the header of values
 
-pub length-header : (p : Set) (vs : List ℕ) → length (headerOf p vs) ≡ header p
+pub length-header : (p : Set) (vs : List ℕ) → length (headerOf p vs) ≡ headerLength p
 unfolding headerOf
 length-header p vs = length-bytesOf (2 * p .t) (pairBits vs)
 
 -- what is read off a header is written again as the same bytes
-pub header-of-values : (p : Set) (s : Bytes) → AreBytes s → header p ≤ length s → padded (2 * p .t) s ≡ true
-    → headerOf p (values p s) ≡ take (header p) s
+pub header-of-values : (p : Set) (s : Bytes) → AreBytes s → headerLength p ≤ length s → zeroPadded (2 * p .t) s ≡ true
+    → headerOf p (values p s) ≡ take (headerLength p) s
 unfolding headerOf
 header-of-values p s small h e =
-    bytesOf-cong (2 * p .t) _ _ (λ i l. pairs-of-values p s i l ∙ sym (bits-take (header p) s i (omega (arith, width-room (2 * p .t)))))
-    ∙ packed-bytes (2 * p .t) (take (header p) s) (padded-packed (2 * p .t) s e (bytes-part s 0 (header p) small) h)
+    bytesOf-cong (2 * p .t) _ _ (λ i l. pairs-of-values p s i l ∙ sym (bits-take (headerLength p) s i (omega (arith, width-room (2 * p .t)))))
+    ∙ packed-bytes (2 * p .t) (take (headerLength p) s) (padded-packed (2 * p .t) s e (bytes-part s 0 (headerLength p) small) h)
 
 module _ (p : Set) (vs : List ℕ) (rest : Bytes) where
   -- a bit of a header
@@ -147,7 +147,7 @@ module _ (p : Set) (vs : List ℕ) (rest : Bytes) where
       getD-values p _ k h ∙ value-of-header k h (small k))
 
   -- and its padding is zero
-  pub padded-header : padded (2 * p .t) (headerOf p vs ++ rest) ≡ true
+  pub padded-header : zeroPadded (2 * p .t) (headerOf p vs ++ rest) ≡ true
   unfolding headerOf
   padded-header =
       padded-front (2 * p .t) (headerOf p vs) rest (length-header p vs)

@@ -10,4 +10,5 @@ pub mod FormLaws
 pub mod ShownLaws
 pub mod SetFacts
 pub mod FitLaws
+pub mod LongestProof
 pub mod ExamplesProof

@@ -15,7 +15,7 @@ use Rattle.bits.specs.Bits.{from, zeros}
 use Rattle.bits.specs.Bytes.{bit, bitsOf, value, width, Packed}
 use Rattle.bits.proofs.NumberLaws.{below, bit-zero, bit-value, value-cong}
 use Rattle.bits.proofs.BytesLaws.{bits-past}
-use Rattle.shape.specs.Fields.{all, isZero, padded}
+use Rattle.shape.specs.Fields.{all, isZero, zeroPadded}
 use Rattle.shape.specs.RoundTrips.{AreBytes}
 
 pub and-left : (a b : Bool) → (a && b) ≡ true → a ≡ true
@@ -98,30 +98,30 @@ unfolding width
 width-whole k = omega arith
 
 -- padding is read off the field's own bytes
-padded-same : (m : ℕ) (s x : Bytes) → ((i : ℕ) → i < 8 * width m → bitsOf s i ≡ bitsOf x i) → padded m s ≡ padded m x
-unfolding padded
+padded-same : (m : ℕ) (s x : Bytes) → ((i : ℕ) → i < 8 * width m → bitsOf s i ≡ bitsOf x i) → zeroPadded m s ≡ zeroPadded m x
+unfolding zeroPadded
 padded-same m s x h =
     ap (λ (v : ℕ). eqb v 0) (value-cong (8 * width m - m) _ _ (λ j l. h (m + j) (omega arith)))
 
-pub padded-take : (m : ℕ) (s : Bytes) → padded m (take (width m) s) ≡ padded m s
+pub padded-take : (m : ℕ) (s : Bytes) → zeroPadded m (take (width m) s) ≡ zeroPadded m s
 padded-take m s = padded-same m _ s (bits-take (width m) s)
 
-pub padded-front : (m : ℕ) (a b : Bytes) → length a ≡ width m → padded m (a ++ b) ≡ padded m a
+pub padded-front : (m : ℕ) (a b : Bytes) → length a ≡ width m → zeroPadded m (a ++ b) ≡ zeroPadded m a
 padded-front m a b e = padded-same m _ a (λ i h. bits-front a b i (omega arith))
 
 -- whole bytes have no padding
-pub padded-whole : (m : ℕ) → 8 * width m ≡ m → (s : Bytes) → padded m s ≡ true
-unfolding padded value
+pub padded-whole : (m : ℕ) → 8 * width m ≡ m → (s : Bytes) → zeroPadded m s ≡ true
+unfolding zeroPadded value
 padded-whole m e s =
     let z : 8 * width m - m ≡ 0 = omega arith in
     rw z
 
-pub padded-bytes : (k : ℕ) (s : Bytes) → padded (8 * k) s ≡ true
+pub padded-bytes : (k : ℕ) (s : Bytes) → zeroPadded (8 * k) s ≡ true
 padded-bytes k s = padded-whole (8 * k) (ap (λ (n : ℕ). 8 * n) (width-whole k)) s
 
 -- each bit of it is zero
-pub padding-bits : (m : ℕ) (s : Bytes) → padded m s ≡ true → (i : ℕ) → m ≤ i → i < 8 * width m → bitsOf s i ≡ false
-unfolding padded
+pub padding-bits : (m : ℕ) (s : Bytes) → zeroPadded m s ≡ true → (i : ℕ) → m ≤ i → i < 8 * width m → bitsOf s i ≡ false
+unfolding zeroPadded
 padding-bits m s e i l h =
     let k = 8 * width m - m in
     let z : value k (from m (bitsOf s)) ≡ 0 = eqb-true _ 0 e in
@@ -130,8 +130,8 @@ padding-bits m s e i l h =
     ∙ (sym (bit-value k (from m (bitsOf s)) (i - m) (omega arith))
     ∙ (ap (λ (v : ℕ). bit v (k - 1 - (i - m))) z ∙ bit-zero (k - 1 - (i - m))))
 
-pub bits-padding : (m : ℕ) (s : Bytes) → ((i : ℕ) → m ≤ i → i < 8 * width m → bitsOf s i ≡ false) → padded m s ≡ true
-unfolding padded zeros value
+pub bits-padding : (m : ℕ) (s : Bytes) → ((i : ℕ) → m ≤ i → i < 8 * width m → bitsOf s i ≡ false) → zeroPadded m s ≡ true
+unfolding zeroPadded zeros value
 bits-padding m s h =
     let k = 8 * width m - m in
     eq-eqb _ 0 (value-cong k (from m (bitsOf s)) zeros (λ j l. h (m + j) (omega arith) (omega arith)) ∙ none k)
@@ -141,16 +141,16 @@ bits-padding m s h =
     none (suc k) = rw (none k)
 
 -- bytes that hold m bits, and padded bytes
-pub packed-padded : (m : ℕ) (a : Bytes) → Packed m a → padded m a ≡ true
-packed-padded m a h = bits-padding m a (λ i l u. h .padded i l)
+pub packed-padded : (m : ℕ) (a : Bytes) → Packed m a → zeroPadded m a ≡ true
+packed-padded m a h = bits-padding m a (λ i l u. h .zero-padding i l)
 
-pub padded-packed : (m : ℕ) (s : Bytes) → padded m s ≡ true → AreBytes (take (width m) s) → width m ≤ length s → Packed m (take (width m) s)
+pub padded-packed : (m : ℕ) (s : Bytes) → zeroPadded m s ≡ true → AreBytes (take (width m) s) → width m ≤ length s → Packed m (take (width m) s)
 padded-packed m s e small h =
     let l : length (take (width m) s) ≡ width m = length-take-le (width m) s h in
     record {
       wide = l;
       small = small;
-      padded =
+      zero-padding =
           λ i g.
           ⊎-elim (λ (q : i < 8 * width m). bits-take (width m) s i q ∙ padding-bits m s e i g q)
           (λ (q : 8 * width m ≤ i). bits-past (take (width m) s) i (omega arith))
@@ -173,7 +173,7 @@ packed-zeros m =
     record {
       wide = length-replicate (width m) 0;
       small = λ k. rw (zero-at k) (omega arith);
-      padded = λ i g. ap (λ (v : ℕ). bit v (7 - i % 8)) (zero-at (i / 8)) ∙ bit-zero (7 - i % 8);
+      zero-padding = λ i g. ap (λ (v : ℕ). bit v (7 - i % 8)) (zero-at (i / 8)) ∙ bit-zero (7 - i % 8);
     }
   where
     zero-at : (k : ℕ) → _≡_ {A = ℕ} (getD (replicate (width m) 0) k 0) 0

@@ -8,14 +8,14 @@ use lib.ListN.{length, drop}
 use borrow.Author.Tests.{lt-ltb, le-ltb, ltb-false, eqb-true, eq-eqb, ne-eqb, not-false}
 use Rattle.slices.specs.Slices.{Bytes}
 use Rattle.sets.specs.declared.Set.{Set}
-use Rattle.sets.specs.Lengths.{salt, header, unpackedLength}
+use Rattle.sets.specs.Lengths.{saltLength, headerLength, unpackedLength}
 use Rattle.answers.specs.declared.Refusal.{Refusal}
 use Rattle.answers.specs.declared.Refusal.the-variants.{Fine, Length, Header, Padding}
 use Rattle.answers.specs.Answers.{fine, Check, when, first}
 use Rattle.answers.specs.Outcome.{Outcome, refused, gives, unless}
 use Rattle.answers.proofs.AnswersLaws.{fine-is}
 use Rattle.answers.proofs.OutcomeLaws.{unless-given}
-use Rattle.shape.specs.Fields.{all, padded, clean, cleanSlots}
+use Rattle.shape.specs.Fields.{all, zeroPadded, clean, cleanSlots}
 use Rattle.shape.specs.Header.{values, isValue}
 use Rattle.shape.specs.Rounds.{fields, signatureLength}
 use Rattle.shape.specs.Form.{valuesIn}
@@ -65,11 +65,11 @@ or-right false b e = e
 
 -- what passes all checks of reading
 pub record Sound (p : Set) (s : Bytes) : Type 0 where
-  pub long : header p + salt ≤ length s
+  pub long : headerLength p + saltLength ≤ length s
   pub valued : all isValue (values p s) ≡ true
-  pub header-padded : padded (2 * p .t) s ≡ true
+  pub header-padded : zeroPadded (2 * p .t) s ≡ true
   pub exact : length s ≡ signatureLength p (values p s)
-  pub cleaned : clean (fields p (values p s)) (drop (header p) s) ≡ true
+  pub cleaned : clean (fields p (values p s)) (drop (headerLength p) s) ≡ true
 
 pub sound : (p : Set) (s : Bytes) → first (readChecks p s) ≡ Fine → Sound p s
 unfolding readChecks headerWrong paddingWrong
@@ -80,8 +80,8 @@ sound p s e0 =
     let (d, _) = passed _ _ _ refl e3 in
     record {
       long = ltb-false _ _ a;
-      valued = not-false _ (or-left (not (all isValue (values p s))) (not (padded (2 * p .t) s)) b);
-      header-padded = not-false _ (or-right (not (all isValue (values p s))) (not (padded (2 * p .t) s)) b);
+      valued = not-false _ (or-left (not (all isValue (values p s))) (not (zeroPadded (2 * p .t) s)) b);
+      header-padded = not-false _ (or-right (not (all isValue (values p s))) (not (zeroPadded (2 * p .t) s)) b);
       exact = eqb-true _ _ (not-false _ c);
       cleaned = not-false _ d;
     }
@@ -92,11 +92,11 @@ sound-passes p s h = rw (le-ltb _ _ (h .long), h .valued, h .header-padded, eq-e
 
 -- how far the checks come
 module _ (p : Set) (s : Bytes) where
-  pub read-short : length s < header p + salt → first (readChecks p s) ≡ Length
+  pub read-short : length s < headerLength p + saltLength → first (readChecks p s) ≡ Length
   unfolding readChecks first
   read-short a = rw (lt-ltb _ _ a)
 
-  module _ (a : header p + salt ≤ length s) where
+  module _ (a : headerLength p + saltLength ≤ length s) where
     pub read-header : headerWrong p s ≡ true → first (readChecks p s) ≡ Header
     unfolding readChecks first
     read-header b = rw (le-ltb _ _ a, b)

@@ -11,7 +11,7 @@ use borrow.Author.Tests.{ltb-true}
 use Rattle.slices.specs.Slices.{Bytes}
 use Rattle.bits.proofs.NumberLaws.{below}
 use Rattle.sets.specs.declared.Set.{Set}
-use Rattle.sets.specs.Lengths.{salt, header, roundMost, unpackedLength}
+use Rattle.sets.specs.Lengths.{saltLength, headerLength, roundMost, unpackedLength}
 use Rattle.shape.specs.Fields.{all, sizes, unpack, pack}
 use Rattle.shape.specs.Header.{values, headerOf, isValue, AreValues}
 use Rattle.shape.specs.Rounds.{fields, signatureLength}
@@ -35,18 +35,18 @@ are-values vs e k =
 
 module _ (p : Set) (s : Bytes) (e : length s ≡ signatureLength p (values p s)) where
   -- header and salt are there
-  pub exact-long : header p + salt ≤ length s
+  pub exact-long : headerLength p + saltLength ≤ length s
   exact-long = omega (arith, sizes-fields p (values p s))
 
   -- what stands behind the header
-  pub length-behind : length (drop (header p) s) ≡ sizes (fields p (values p s))
+  pub length-behind : length (drop (headerLength p) s) ≡ sizes (fields p (values p s))
   length-behind = rw length-drop (omega arith)
 
   pub values-of-form : valuesIn p (form p s) ≡ values p s
   unfolding form
   values-of-form = take-at (values p s) _ (p .t) (length-values p s)
 
-  pub behind-values : drop (p .t) (form p s) ≡ unpack (fields p (values p s)) (drop (header p) s)
+  pub behind-values : drop (p .t) (form p s) ≡ unpack (fields p (values p s)) (drop (headerLength p) s)
   unfolding form
   behind-values = drop-at (values p s) _ (p .t) (length-values p s)
 
@@ -55,9 +55,9 @@ module _ (p : Set) (s : Bytes) (e : length s ≡ signatureLength p (values p s))
   length-form =
       omega (
         arith,
-        length-append (values p s) (unpack (fields p (values p s)) (drop (header p) s)),
+        length-append (values p s) (unpack (fields p (values p s)) (drop (headerLength p) s)),
         length-values p s,
-        length-unpack (fields p (values p s)) (drop (header p) s) (omega (arith, length-behind)),
+        length-unpack (fields p (values p s)) (drop (headerLength p) s) (omega (arith, length-behind)),
         slots-fields p (values p s),
         ap (λ (n : ℕ). n * roundMost p) (length-values p s),
       )
@@ -70,7 +70,7 @@ module _ (p : Set) (s : Bytes) (h : Sound p s) where
         valued = rw (values-of-form p s (h .exact)) (h .valued);
         cleaned =
             rw (values-of-form p s (h .exact), behind-values p s (h .exact))
-            (clean-unpack (fields p (values p s)) (drop (header p) s) (omega (arith, length-behind p s (h .exact))) (h .cleaned));
+            (clean-unpack (fields p (values p s)) (drop (headerLength p) s) (omega (arith, length-behind p s (h .exact))) (h .cleaned));
       }
 
   pub signature-of-form : AreBytes s → signature p (form p s) ≡ s
@@ -80,9 +80,9 @@ module _ (p : Set) (s : Bytes) (h : Sound p s) where
         values-of-form p s (h .exact),
         behind-values p s (h .exact),
         header-of-values p s small (omega (arith, h .long)) (h .header-padded),
-        pack-unpack (fields p (values p s)) (drop (header p) s) (sym (length-behind p s (h .exact))),
+        pack-unpack (fields p (values p s)) (drop (headerLength p) s) (sym (length-behind p s (h .exact))),
       )
-      (take-append-drop (header p) s)
+      (take-append-drop (headerLength p) s)
 
 -- ---- a form and its signature
 
@@ -104,9 +104,9 @@ module _ (p : Set) (x : Bytes) (h : length x ≡ unpackedLength p) where
         length-pack (fields p (valuesIn p x)) (drop (p .t) x) (omega (arith, slots-of-form)),
       )
 
-  behind-header : drop (header p) (signature p x) ≡ pack (fields p (valuesIn p x)) (drop (p .t) x)
+  behind-header : drop (headerLength p) (signature p x) ≡ pack (fields p (valuesIn p x)) (drop (p .t) x)
   unfolding signature
-  behind-header = drop-at (headerOf p (valuesIn p x)) _ (header p) (length-header p (valuesIn p x))
+  behind-header = drop-at (headerOf p (valuesIn p x)) _ (headerLength p) (length-header p (valuesIn p x))
 
 module _ (p : Set) (x : Bytes) (h : Whole p x) where
   pub values-of-signature : values p (signature p x) ≡ valuesIn p x

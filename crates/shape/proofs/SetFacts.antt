@@ -5,9 +5,8 @@ use lib.Dec.{lit<}
 use Rattle.bits.specs.Bytes.{width}
 use Rattle.sets.specs.declared.Set.{Set}
 use Rattle.sets.specs.Sets.{IsSet}
-use Rattle.sets.specs.Lengths.{w, seedWidth, header, roundMost, longest, unpackedLength}
+use Rattle.sets.specs.Lengths.{w, seedWidth, headerLength, roundMost, longest, unpackedLength, transcriptBits}
 use Rattle.sets.proofs.Each.{each, most}
-use Rattle.shape.specs.Rounds.{gates}
 
 module _ {p : Set} (h : IsSet p) where
   pub seeds-whole : 8 * seedWidth p ≡ p .seed
@@ -24,18 +23,18 @@ module _ {p : Set} (h : IsSet p) where
   pub digest≤ : p .digest ≤ 64
   digest≤ = most (λ (p : Set). p .digest) 64 tt tt tt h
 
-  pub gates≤ : gates p ≤ 1140
-  gates≤ = most gates 1140 tt tt tt h
+  pub transcriptBits≤ : transcriptBits p ≤ 1140
+  transcriptBits≤ = most transcriptBits 1140 tt tt tt h
 
-  pub some-gates : 0 < gates p
-  some-gates = each (λ (p : Set). 0 < gates p) (lit< tt) (lit< tt) (lit< tt) h
+  pub some-gates : 0 < transcriptBits p
+  some-gates = each (λ (p : Set). 0 < transcriptBits p) (lit< tt) (lit< tt) (lit< tt) h
 
   pub some-rounds : 0 < p .t
   some-rounds = each (λ (p : Set). 0 < p .t) (lit< tt) (lit< tt) (lit< tt) h
 
-  pub header≤ : header p ≤ 110
+  pub headerLength≤ : headerLength p ≤ 110
   unfolding width
-  header≤ = most header 110 tt tt tt h
+  headerLength≤ = most headerLength 110 tt tt tt h
 
   pub roundMost≤ : roundMost p ≤ 303
   unfolding width

@@ -8,12 +8,13 @@ use lib.ListN.{length, take, drop, getD, replicate, length-append, length-drop, 
 use lib.Seq.{drop-drop, take-at, take-take, length-take-le, getD-take, take-length}
 use Rattle.slices.specs.Slices.{Bytes, part, joined}
 use Rattle.slices.proofs.SliceLaws.{joined-cong}
+use Rattle.bits.specs.Bytes.{Packed}
 use Rattle.sets.specs.declared.Set.{Set}
-use Rattle.sets.specs.Lengths.{w, seedWidth, transcript, salt, header, roundLeast, roundMost, unpackedLength}
+use Rattle.sets.specs.Lengths.{w, seedWidth, transcriptBits, transcriptLength, saltLength, headerLength, roundLeast, roundMost, unpackedLength}
 use Rattle.shape.specs.Fields.{sizes, pack}
 use Rattle.shape.specs.Header.{values, headerOf}
-use Rattle.shape.specs.Rounds.{round, rounds, signatureLength, start}
-use Rattle.shape.specs.Form.{form, valuesIn, signature, Shown, Sized, Fit, slotOf, roundOf, formOf, saltIn, slotAt, shownIn}
+use Rattle.shape.specs.Rounds.{roundFields, roundsFields, signatureLength, roundStart}
+use Rattle.shape.specs.Form.{form, valuesIn, signature, Shown, Sized, slotOf, roundOf, formOf, saltIn, slotAt, shownIn}
 use Rattle.shape.proofs.PaddingLaws.{width-whole}
 use Rattle.shape.proofs.FieldLaws.{slots, pack-append}
 use Rattle.shape.proofs.PartLaws.{length-part, part-past, part-behind, next-to, length-of-joined}
@@ -26,17 +27,17 @@ use Rattle.shape.proofs.FormLaws.{slotFrom, length-slotFrom, form-by-sl
 -- ---- in place: what a signature shows of a round stands from the round's start on
 
 module _ (p : Set) (s : Bytes) (e : length s ≡ signatureLength p (values p s)) where
-  pub salt-in-place : saltIn p (form p s) ≡ part s (header p) salt
+  pub salt-in-place : saltIn p (form p s) ≡ part s (headerLength p) saltLength
   salt-in-place =
       let z : p .t ≡ p .t + 0 = omega arith in
-      ap (λ (x : Bytes). part x (p .t) salt) (form-by-slots p s e)
-      ∙ (ap (λ (n : ℕ). part (values p s ++ (part s (header p) salt ++ joined (p .t) (slotFrom p s))) n salt) z
-      ∙ (part-past (values p s) (part s (header p) salt ++ joined (p .t) (slotFrom p s)) (p .t) 0 salt (length-values p s)
-      ∙ take-at (part s (header p) salt) _ salt (length-part s (header p) salt (omega (arith, exact-long p s e)))))
+      ap (λ (x : Bytes). part x (p .t) saltLength) (form-by-slots p s e)
+      ∙ (ap (λ (n : ℕ). part (values p s ++ (part s (headerLength p) saltLength ++ joined (p .t) (slotFrom p s))) n saltLength) z
+      ∙ (part-past (values p s) (part s (headerLength p) saltLength ++ joined (p .t) (slotFrom p s)) (p .t) 0 saltLength (length-values p s)
+      ∙ take-at (part s (headerLength p) saltLength) _ saltLength (length-part s (headerLength p) saltLength (omega (arith, exact-long p s e)))))
 
   module _ (k : ℕ) (h : k < p .t) where
     abbrev at : ℕ
-    at = start p (values p s) k
+    at = roundStart p (values p s) k
 
     abbrev v : ℕ
     v = getD (values p s) k 0
@@ -46,8 +47,8 @@ module _ (p : Set) (s : Bytes) (e : length s ≡ signatureLength p (values p s))
         shown-by-slot p (form p s) k
         ∙ ap (cut p)
         (ap (λ (x : Bytes). part x (slotAt p k) (roundMost p)) (form-by-slots p s e)
-        ∙ slot-among p (values p s) (part s (header p) salt) (slotFrom p s) (length-values p s)
-        (length-part s (header p) salt (omega (arith, exact-long p s e))) (length-slotFrom p s e) k h)
+        ∙ slot-among p (values p s) (part s (headerLength p) saltLength) (slotFrom p s) (length-values p s)
+        (length-part s (headerLength p) saltLength (omega (arith, exact-long p s e))) (length-slotFrom p s e) k h)
 
     inside : roundLeast p ≤ length (drop at s)
     inside =
@@ -63,22 +64,22 @@ module _ (p : Set) (s : Bytes) (e : length s ≡ signatureLength p (values p s))
     unfolding cut
     commitment-in-place = ap (λ (u : Shown). u .commitment) shown-from ∙ there 0 (p .digest) at (omega arith) (omega arith)
 
-    pub transcript-in-place : shownIn p (form p s) k .transcript ≡ part s (at + p .digest) (transcript p)
+    pub transcript-in-place : shownIn p (form p s) k .transcript ≡ part s (at + p .digest) (transcriptLength p)
     unfolding cut
     transcript-in-place =
-        ap (λ (u : Shown). u .transcript) shown-from ∙ there (p .digest) (transcript p) (at + p .digest) (omega arith) (omega arith)
+        ap (λ (u : Shown). u .transcript) shown-from ∙ there (p .digest) (transcriptLength p) (at + p .digest) (omega arith) (omega arith)
 
-    pub seed1-in-place : shownIn p (form p s) k .seed1 ≡ part s (at + p .digest + transcript p) (seedWidth p)
+    pub seed1-in-place : shownIn p (form p s) k .seed1 ≡ part s (at + p .digest + transcriptLength p) (seedWidth p)
     unfolding cut
     seed1-in-place =
         ap (λ (u : Shown). u .seed1) shown-from
-        ∙ there (p .digest + transcript p) (seedWidth p) (at + p .digest + transcript p) (omega arith) (omega arith)
+        ∙ there (p .digest + transcriptLength p) (seedWidth p) (at + p .digest + transcriptLength p) (omega arith) (omega arith)
 
-    pub seed2-in-place : shownIn p (form p s) k .seed2 ≡ part s (at + p .digest + transcript p + seedWidth p) (seedWidth p)
+    pub seed2-in-place : shownIn p (form p s) k .seed2 ≡ part s (at + p .digest + transcriptLength p + seedWidth p) (seedWidth p)
     unfolding cut
     seed2-in-place =
         ap (λ (u : Shown). u .seed2) shown-from
-        ∙ there (p .digest + transcript p + seedWidth p) (seedWidth p) (at + p .digest + transcript p + seedWidth p) (omega arith)
+        ∙ there (p .digest + transcriptLength p + seedWidth p) (seedWidth p) (at + p .digest + transcriptLength p + seedWidth p) (omega arith)
         (omega arith)
 
     pub share-in-place : (v ≡ 0 → ⊥) → shownIn p (form p s) k .share ≡ part s (at + roundLeast p) (w p)
@@ -95,31 +96,31 @@ module _ (p : Set) (s : Bytes) (e : length s ≡ signatureLength p (values p s))
 
 module _ (p : Set) (x : Bytes) (h : length x ≡ unpackedLength p) where
   -- round k of it
-  round-shown : (k : ℕ) → k < p .t → pack (round p (getD (valuesIn p x) k 0)) (drop (slotAt p k) x) ≡ roundOf p (getD x k 0) (shownIn p x k)
+  round-shown : (k : ℕ) → k < p .t → pack (roundFields p (getD (valuesIn p x) k 0)) (drop (slotAt p k) x) ≡ roundOf p (getD x k 0) (shownIn p x k)
   unfolding roundOf
   round-shown k l =
       let e : ℕ = getD x k 0 in
       let b : Bytes = part x (slotAt p k) (roundMost p) in
       let r : slotOf (shownIn p x k) ≡ b =
       ap slotOf (shown-by-slot p x k) ∙ slot-of-cut p b (length-part x (slotAt p k) (roundMost p) (omega (arith, slot-within p k l))) in
-      ap (λ (v : ℕ). pack (round p v) (drop (slotAt p k) x)) (getD-take (p .t) x k 0 l)
+      ap (λ (v : ℕ). pack (roundFields p v) (drop (slotAt p k) x)) (getD-take (p .t) x k 0 l)
       ∙ (pack-round p e (drop (slotAt p k) x)
-      ∙ sym (ap (pack (round p e)) r ∙ (pack-round p e b ∙ take-take (sizes (round p e)) (roundMost p) (drop (slotAt p k) x)
+      ∙ sym (ap (pack (roundFields p e)) r ∙ (pack-round p e b ∙ take-take (sizes (roundFields p e)) (roundMost p) (drop (slotAt p k) x)
       (sizes-bounds p e .1))))
 
   -- as its bytes stand in the form
-  pub round-bytes : (k : ℕ) → k < p .t → part x (slotAt p k) (sizes (round p (getD x k 0))) ≡ roundOf p (getD x k 0) (shownIn p x k)
+  pub round-bytes : (k : ℕ) → k < p .t → part x (slotAt p k) (sizes (roundFields p (getD x k 0))) ≡ roundOf p (getD x k 0) (shownIn p x k)
   round-bytes k l =
       sym (pack-round p (getD x k 0) (drop (slotAt p k) x))
-      ∙ (ap (λ (v : ℕ). pack (round p v) (drop (slotAt p k) x)) (sym (getD-take (p .t) x k 0 l)) ∙ round-shown k l)
+      ∙ (ap (λ (v : ℕ). pack (roundFields p v) (drop (slotAt p k) x)) (sym (getD-take (p .t) x k 0 l)) ∙ round-shown k l)
 
   pub pack-rounds : (k : ℕ) → k ≤ p .t
-      → pack (rounds p (take k (valuesIn p x))) (drop (p .t + salt) x) ≡ joined k (λ i. roundOf p (getD x i 0) (shownIn p x i))
-  unfolding joined rounds pack
+      → pack (roundsFields p (take k (valuesIn p x))) (drop (p .t + saltLength) x) ≡ joined k (λ i. roundOf p (getD x i 0) (shownIn p x i))
+  unfolding joined roundsFields pack
   pack-rounds zero l = refl
   pack-rounds (suc k) l =
       let q : k < length (valuesIn p x) = omega (arith, length-valuesIn p x h) in
-      let a : p .t + salt + slots (rounds p (take k (valuesIn p x))) ≡ slotAt p k =
+      let a : p .t + saltLength + slots (roundsFields p (take k (valuesIn p x))) ≡ slotAt p k =
       omega (
         arith,
         slots-rounds p (take k (valuesIn p x)),
@@ -127,23 +128,23 @@ module _ (p : Set) (x : Bytes) (h : length x ≡ unpackedLength p) where
             (length-take-le k (valuesIn p x) (omega arith)),
       ) in
       rw (← (add-one k), rounds-more p (valuesIn p x) k q)
-      (pack-append (round p (getD (valuesIn p x) k 0)) (rounds p (take k (valuesIn p x))) (drop (p .t + salt) x)
+      (pack-append (roundFields p (getD (valuesIn p x) k 0)) (roundsFields p (take k (valuesIn p x))) (drop (p .t + saltLength) x)
       ∙ ap₂ _++_ (pack-rounds k (omega arith)) (rw (drop-drop, a) (round-shown k (omega arith))))
 
   -- where round k of the signature starts
   pub start-of-rounds : (k : ℕ) → k ≤ p .t
-      → header p + salt + length (joined k (λ i. roundOf p (getD x i 0) (shownIn p x i))) ≡ start p (valuesIn p x) k
+      → headerLength p + saltLength + length (joined k (λ i. roundOf p (getD x i 0) (shownIn p x i))) ≡ roundStart p (valuesIn p x) k
   unfolding joined
   start-of-rounds zero l = sym (start-first p (valuesIn p x) ∙ omega arith)
   start-of-rounds (suc k) l =
       let q : k < length (valuesIn p x) = omega (arith, length-valuesIn p x h) in
-      let e : start p (valuesIn p x) (suc k) ≡ start p (valuesIn p x) k + sizes (round p (getD (valuesIn p x) k 0)) =
+      let e : roundStart p (valuesIn p x) (suc k) ≡ roundStart p (valuesIn p x) k + sizes (roundFields p (getD (valuesIn p x) k 0)) =
       rw (← (add-one k)) (start-more p (valuesIn p x) k q) in
-      let v : sizes (round p (getD (valuesIn p x) k 0)) ≡ sizes (round p (getD x k 0)) =
-      ap (λ (v : ℕ). sizes (round p v)) (getD-take (p .t) x k 0 (omega arith)) in
-      let r : length (roundOf p (getD x k 0) (shownIn p x k)) ≡ sizes (round p (getD x k 0)) =
+      let v : sizes (roundFields p (getD (valuesIn p x) k 0)) ≡ sizes (roundFields p (getD x k 0)) =
+      ap (λ (v : ℕ). sizes (roundFields p v)) (getD-take (p .t) x k 0 (omega arith)) in
+      let r : length (roundOf p (getD x k 0) (shownIn p x k)) ≡ sizes (roundFields p (getD x k 0)) =
       ap length (sym (round-bytes k (omega arith)))
-      ∙ length-part x (slotAt p k) (sizes (round p (getD x k 0)))
+      ∙ length-part x (slotAt p k) (sizes (roundFields p (getD x k 0)))
       (omega (arith, slot-within p k (omega arith), sizes-bounds p (getD x k 0))) in
       omega (
         arith,
@@ -158,12 +159,21 @@ module _ (p : Set) (x : Bytes) (h : length x ≡ unpackedLength p) where
   signature-by-parts =
       let a : take (p .t) (valuesIn p x) ≡ valuesIn p x =
       ap (λ (n : ℕ). take n (valuesIn p x)) (sym (length-valuesIn p x h)) ∙ take-length (valuesIn p x) in
-      let g : salt + 0 ≡ salt = omega arith in
-      rw (width-whole salt, g, drop-drop)
+      let g : saltLength + 0 ≡ saltLength = omega arith in
+      rw (width-whole saltLength, g, drop-drop)
       (ap (λ (l : Bytes). headerOf p (valuesIn p x) ++ (saltIn p x ++ l))
-      (ap (λ (l : List ℕ). pack (rounds p l) (drop (p .t + salt) x)) (sym a) ∙ pack-rounds (p .t) (omega arith)))
+      (ap (λ (l : List ℕ). pack (roundsFields p l) (drop (p .t + saltLength) x)) (sym a) ∙ pack-rounds (p .t) (omega arith)))
 
 -- ---- a form of given parts
+
+-- what is shown of a round of value e has its lengths and zero padding, and zeros for the share where e is 0
+pub record Fit (p : Set) (e : ℕ) (u : Shown) : Type 0 where
+  pub commitment : length (u .commitment) ≡ p .digest
+  pub transcript : Packed (transcriptBits p) (u .transcript)
+  pub seed1 : length (u .seed1) ≡ seedWidth p
+  pub seed2 : length (u .seed2) ≡ seedWidth p
+  pub share : Packed (p .n) (u .share)
+  pub none : e ≡ 0 → u .share ≡ replicate (w p) 0
 
 pub fit-sized : {p : Set} {e : ℕ} {u : Shown} → Fit p e u → Sized p u
 fit-sized h =
@@ -199,25 +209,25 @@ module _ (p : Set) (u : Shown) (h : Sized p u) where
   abbrev d : Bytes
   d = u .seed2
 
-  seed1-of : part (a ++ (b ++ (c ++ (d ++ u .share)))) (p .digest + transcript p) (seedWidth p) ≡ c
+  seed1-of : part (a ++ (b ++ (c ++ (d ++ u .share)))) (p .digest + transcriptLength p) (seedWidth p) ≡ c
   seed1-of =
-      part-past a (b ++ (c ++ (d ++ u .share))) (p .digest) (transcript p) (seedWidth p) (h .commitment)
-      ∙ next-to b c (d ++ u .share) (transcript p) (seedWidth p) (h .transcript) (h .seed1)
+      part-past a (b ++ (c ++ (d ++ u .share))) (p .digest) (transcriptLength p) (seedWidth p) (h .commitment)
+      ∙ next-to b c (d ++ u .share) (transcriptLength p) (seedWidth p) (h .transcript) (h .seed1)
 
-  seed2-of : part (a ++ (b ++ (c ++ (d ++ u .share)))) (p .digest + transcript p + seedWidth p) (seedWidth p) ≡ d
+  seed2-of : part (a ++ (b ++ (c ++ (d ++ u .share)))) (p .digest + transcriptLength p + seedWidth p) (seedWidth p) ≡ d
   seed2-of =
-      let e : p .digest + transcript p + seedWidth p ≡ p .digest + (transcript p + seedWidth p) = omega arith in
+      let e : p .digest + transcriptLength p + seedWidth p ≡ p .digest + (transcriptLength p + seedWidth p) = omega arith in
       ap (λ (k : ℕ). part (a ++ (b ++ (c ++ (d ++ u .share)))) k (seedWidth p)) e
-      ∙ (part-past a (b ++ (c ++ (d ++ u .share))) (p .digest) (transcript p + seedWidth p) (seedWidth p) (h .commitment)
-      ∙ (part-past b (c ++ (d ++ u .share)) (transcript p) (seedWidth p) (seedWidth p) (h .transcript)
+      ∙ (part-past a (b ++ (c ++ (d ++ u .share))) (p .digest) (transcriptLength p + seedWidth p) (seedWidth p) (h .commitment)
+      ∙ (part-past b (c ++ (d ++ u .share)) (transcriptLength p) (seedWidth p) (seedWidth p) (h .transcript)
       ∙ next-to c d (u .share) (seedWidth p) (seedWidth p) (h .seed1) (h .seed2)))
 
   share-of : part (a ++ (b ++ (c ++ (d ++ u .share)))) (roundLeast p) (w p) ≡ u .share
   share-of =
-      let e : roundLeast p ≡ p .digest + (transcript p + (seedWidth p + seedWidth p)) = omega arith in
+      let e : roundLeast p ≡ p .digest + (transcriptLength p + (seedWidth p + seedWidth p)) = omega arith in
       ap (λ (k : ℕ). part (a ++ (b ++ (c ++ (d ++ u .share)))) k (w p)) e
-      ∙ (part-past a (b ++ (c ++ (d ++ u .share))) (p .digest) (transcript p + (seedWidth p + seedWidth p)) (w p) (h .commitment)
-      ∙ (part-past b (c ++ (d ++ u .share)) (transcript p) (seedWidth p + seedWidth p) (w p) (h .transcript)
+      ∙ (part-past a (b ++ (c ++ (d ++ u .share))) (p .digest) (transcriptLength p + (seedWidth p + seedWidth p)) (w p) (h .commitment)
+      ∙ (part-past b (c ++ (d ++ u .share)) (transcriptLength p) (seedWidth p + seedWidth p) (w p) (h .transcript)
       ∙ (part-past c (d ++ u .share) (seedWidth p) (seedWidth p) (w p) (h .seed1)
       ∙ part-behind d (u .share) (seedWidth p) (w p) (h .seed2) (h .share))))
 
@@ -227,19 +237,19 @@ module _ (p : Set) (u : Shown) (h : Sized p u) where
   cut-slotOf =
       λ i. record {
         commitment = take-at a (b ++ (c ++ (d ++ u .share))) (p .digest) (h .commitment) i;
-        transcript = next-to a b (c ++ (d ++ u .share)) (p .digest) (transcript p) (h .commitment) (h .transcript) i;
+        transcript = next-to a b (c ++ (d ++ u .share)) (p .digest) (transcriptLength p) (h .commitment) (h .transcript) i;
         seed1 = seed1-of i;
         seed2 = seed2-of i;
         share = share-of i;
       }
 
   -- a round in a signature
-  pub length-roundOf : (e : ℕ) → length (roundOf p e u) ≡ sizes (round p e)
+  pub length-roundOf : (e : ℕ) → length (roundOf p e u) ≡ sizes (roundFields p e)
   unfolding roundOf
   length-roundOf e =
-      ap length (pack-round p e (slotOf u)) ∙ length-take-le (sizes (round p e)) (slotOf u) (omega (arith, length-slotOf, sizes-bounds p e))
+      ap length (pack-round p e (slotOf u)) ∙ length-take-le (sizes (roundFields p e)) (slotOf u) (omega (arith, length-slotOf, sizes-bounds p e))
 
-module _ (p : Set) (es sa : Bytes) (us : ℕ → Shown) (le : length es ≡ p .t) (ls : length sa ≡ salt)
+module _ (p : Set) (es sa : Bytes) (us : ℕ → Shown) (le : length es ≡ p .t) (ls : length sa ≡ saltLength)
     (lu : (k : ℕ) → k < p .t → Sized p (us k)) where
   slotted : (k : ℕ) → k < p .t → length (slotOf (us k)) ≡ roundMost p
   slotted k h = length-slotOf p (us k) (lu k h)
@@ -266,8 +276,8 @@ module _ (p : Set) (es sa : Bytes) (us : ℕ → Shown) (le : length es ≡ p .t
   unfolding formOf
   salt-of-formOf =
       let z : p .t ≡ p .t + 0 = omega arith in
-      ap (λ (n : ℕ). part (es ++ (sa ++ joined (p .t) (λ k. slotOf (us k)))) n salt) z
-      ∙ (part-past es (sa ++ joined (p .t) (λ k. slotOf (us k))) (p .t) 0 salt le ∙ take-at sa _ salt ls)
+      ap (λ (n : ℕ). part (es ++ (sa ++ joined (p .t) (λ k. slotOf (us k)))) n saltLength) z
+      ∙ (part-past es (sa ++ joined (p .t) (λ k. slotOf (us k))) (p .t) 0 saltLength le ∙ take-at sa _ saltLength ls)
 
   pub shown-in-formOf : (k : ℕ) → k < p .t → shownIn p (formOf p es sa us) k ≡ us k
   unfolding formOf
@@ -283,11 +293,11 @@ module _ (p : Set) (es sa : Bytes) (us : ℕ → Shown) (le : length es ≡ p .t
       signature-by-parts p (formOf p es sa us) length-formOf ∙ rw (values-of-formOf, salt-of-formOf, r)
 
   -- where its round k starts
-  pub start-of-round : (k : ℕ) → k ≤ p .t → header p + salt + length (joined k (λ i. roundOf p (getD es i 0) (us i))) ≡ start p es k
+  pub start-of-round : (k : ℕ) → k ≤ p .t → headerLength p + saltLength + length (joined k (λ i. roundOf p (getD es i 0) (us i))) ≡ roundStart p es k
   unfolding joined
   start-of-round zero h = sym (start-first p es ∙ omega arith)
   start-of-round (suc k) h =
-      let e : start p es (suc k) ≡ start p es k + sizes (round p (getD es k 0)) = rw (← (add-one k)) (start-more p es k (omega arith)) in
+      let e : roundStart p es (suc k) ≡ roundStart p es k + sizes (roundFields p (getD es k 0)) = rw (← (add-one k)) (start-more p es k (omega arith)) in
       omega (
         arith,
         length-append (joined k (λ i. roundOf p (getD es i 0) (us i))) (roundOf p (getD es k 0) (us k)),

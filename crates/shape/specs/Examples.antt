@@ -15,7 +15,7 @@ use Rattle.shape.specs.Reading.{headerWrong, reading}
 
 -- P12, as 02 has it: values 0, 1, 2, 0 start a header with byte 24 hex
 unfoldable pub P12 : Type 0
-P12 = (p : Set) → IsSet p → (vs : List ℕ) → take 1 (headerOf p (0 ∷ 1 ∷ 2 ∷ 0 ∷ vs)) ≡ 0x24 ∷ []
+P12 = (set : Set) → IsSet set → (vs : List ℕ) → take 1 (headerOf set (0 ∷ 1 ∷ 2 ∷ 0 ∷ vs)) ≡ 0x24 ∷ []
 
 -- set 1: a header whose last byte is b, and a salt
 abbrev pub endingIn : ℕ → Bytes

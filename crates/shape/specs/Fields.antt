@@ -47,16 +47,16 @@ abbrev pub isZero : ℕ → Bool
 isZero v = eqb v 0
 
 -- the bits behind the first m, to the byte, are zero
-unfoldable pub padded : ℕ → Bytes → Bool
-padded m s = eqb (value (8 * width m - m) (from m (bitsOf s))) 0
+unfoldable pub zeroPadded : ℕ → Bytes → Bool
+zeroPadded m s = eqb (value (8 * width m - m) (from m (bitsOf s))) 0
 
 -- the padding of each field is zero, in a signature
 unfoldable pub clean : List Field → Bytes → Bool
 clean [] s = true
-clean (f ∷ fs) s = padded (f .bits) s && clean fs (drop (size f) s)
+clean (f ∷ fs) s = zeroPadded (f .bits) s && clean fs (drop (size f) s)
 
 -- the padding of each field is zero, and what is blank, in the unpacked form
 unfoldable pub cleanSlots : List Field → Bytes → Bool
 cleanSlots [] x = true
 cleanSlots (f ∷ fs) x =
-    padded (f .bits) x && (all isZero (part x (size f) (f .blank)) && cleanSlots fs (drop (slot f) x))
+    zeroPadded (f .bits) x && (all isZero (part x (size f) (f .blank)) && cleanSlots fs (drop (slot f) x))

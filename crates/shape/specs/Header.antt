@@ -19,7 +19,7 @@ pairBits vs i = bit (getD vs (i / 2) 0) (place (i % 2))
 
 -- the header of the values vs
 unfoldable pub headerOf : Set → List ℕ → Bytes
-headerOf p vs = bytesOf (2 * p .t) (pairBits vs)
+headerOf set vs = bytesOf (2 * set .t) (pairBits vs)
 
 -- value k of a header that starts s
 unfoldable pub valueAt : Bytes → ℕ → ℕ
@@ -27,7 +27,7 @@ valueAt s k = 2 * digit (bitsOf s (2 * k + place 1)) + digit (bitsOf s (2 * k + 
 
 -- the T values of a header that starts s
 unfoldable pub values : Set → Bytes → List ℕ
-values p s = joined (p .t) (λ k. valueAt s k ∷ [])
+values set s = joined (set .t) (λ k. valueAt s k ∷ [])
 
 -- 0, 1 and 2 are values; the pair 11 is none
 abbrev pub isValue : ℕ → Bool

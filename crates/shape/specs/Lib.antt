@@ -5,3 +5,4 @@ pub mod Form
 pub mod Reading
 pub mod RoundTrips
 pub mod Examples
+pub mod Longest

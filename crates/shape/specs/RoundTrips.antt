@@ -13,16 +13,16 @@ AreBytes s = (k : ℕ) → getD s k 0 < 256
 
 -- what is read is written again as the same bytes
 unfoldable pub ReadIsWritten : Type 0
-ReadIsWritten = (p : Set) (s x : Bytes) → AreBytes s → reading p s ≡ gives x → writing p x ≡ gives s
+ReadIsWritten = (set : Set) (s x : Bytes) → AreBytes s → reading set s ≡ gives x → writing set x ≡ gives s
 
 -- what is written reads back as the same form
 unfoldable pub WrittenIsRead : Type 0
-WrittenIsRead = (p : Set) (x s : Bytes) → writing p x ≡ gives s → reading p s ≡ gives x
+WrittenIsRead = (set : Set) (x s : Bytes) → writing set x ≡ gives s → reading set s ≡ gives x
 
 -- two different strings never have the same reading: one signature has one form
 unfoldable pub OneString : Type 0
-OneString = (p : Set) (r s x : Bytes) → AreBytes r → AreBytes s → reading p r ≡ gives x → reading p s ≡ gives x → r ≡ s
+OneString = (set : Set) (r s x : Bytes) → AreBytes r → AreBytes s → reading set r ≡ gives x → reading set s ≡ gives x → r ≡ s
 
 -- two different forms are never written as the same signature
 unfoldable pub OneForm : Type 0
-OneForm = (p : Set) (x y s : Bytes) → writing p x ≡ gives s → writing p y ≡ gives s → x ≡ y
+OneForm = (set : Set) (x y s : Bytes) → writing set x ≡ gives s → writing set y ≡ gives s → x ≡ y

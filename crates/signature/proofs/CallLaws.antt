@@ -1,5 +1,5 @@
 -- How the two calls meet their promises.
-use mathlib.Core.Path.{_≡_, refl, sym, _∙_}
+use mathlib.Core.Path.{_≡_, sym, _∙_}
 use mathlib.Core.Bool.{Bool, true, false}
 use Prim.Native.Nat.{ℕ, _≤_, _<_}
 use native.Mathlib.Omega.{arith}
@@ -15,12 +15,12 @@ use Rattle.answers.specs.declared.Refusal.{Refusal}
 use Rattle.answers.specs.declared.Refusal.the-variants.{Fine, NoSet, Room}
 use Rattle.answers.specs.Answers.{fine, first, answer}
 use Rattle.answers.specs.Outcome.{Outcome, refused, gives, answerOf, leftBy, Promise}
-use Rattle.answers.proofs.AnswersLaws.{fine-is, stop, skip}
-use Rattle.answers.proofs.OutcomeLaws.{set-unknown, set-known, unless-refused, unless-given}
+use Rattle.answers.proofs.AnswersLaws.{fine-is}
+use Rattle.answers.proofs.OutcomeLaws.{set-unknown, set-known, unless-refused, unless-given, behind-holds, behind-passes}
 use Rattle.shape.specs.Header.{values, AreValues}
 use Rattle.shape.specs.Rounds.{signatureLength}
 use Rattle.shape.specs.Form.{form, valuesIn, signature}
-use Rattle.shape.specs.Reading.{readChecks, writeChecks, readInto, writeInto, read, write}
+use Rattle.shape.specs.Reading.{readChecks, writeChecks, reading, writing, readInto, writeInto, read, write}
 use Rattle.shape.proofs.ReadingLaws.{sound, whole}
 use Rattle.shape.proofs.RoundTripsProof.{are-values, length-valuesIn, length-signature}
 use Rattle.shape.proofs.RoundsLaws.{signature-most}
@@ -42,27 +42,27 @@ gave o out a vs last e h l = record { answered = rw e h; left = rw e l }
 module _ (p : Set) (s : Bytes) (n : ℕ) where
   pub read-small : n < unpackedLength p → readInto p s n ≡ refused Room
   unfolding readInto
-  read-small h = unless-refused _ _ Room (stop _ Room _ (lt-ltb _ _ h)) refl
+  read-small h = behind-holds _ Room _ (lt-ltb _ _ h)
 
   pub read-refused : unpackedLength p ≤ n → (r : Refusal) → r ≡ first (readChecks p s) → fine r ≡ false → readInto p s n ≡ refused r
-  unfolding readInto
-  read-refused h r e f = unless-refused _ _ r (skip _ Room _ (le-ltb _ _ h) ∙ sym e) f
+  unfolding readInto reading
+  read-refused h r e f = behind-passes _ Room _ (le-ltb _ _ h) ∙ unless-refused _ _ r (sym e) f
 
   pub read-done : unpackedLength p ≤ n → (r : Refusal) → r ≡ first (readChecks p s) → fine r ≡ true → readInto p s n ≡ gives (form p s)
-  unfolding readInto
-  read-done h r e f = unless-given _ _ r (skip _ Room _ (le-ltb _ _ h) ∙ sym e) f
+  unfolding readInto reading
+  read-done h r e f = behind-passes _ Room _ (le-ltb _ _ h) ∙ unless-given _ _ r (sym e) f
 
   pub write-small : n < longest p → writeInto p s n ≡ refused Room
   unfolding writeInto
-  write-small h = unless-refused _ _ Room (stop _ Room _ (lt-ltb _ _ h)) refl
+  write-small h = behind-holds _ Room _ (lt-ltb _ _ h)
 
   pub write-refused : longest p ≤ n → (r : Refusal) → r ≡ first (writeChecks p s) → fine r ≡ false → writeInto p s n ≡ refused r
-  unfolding writeInto
-  write-refused h r e f = unless-refused _ _ r (skip _ Room _ (le-ltb _ _ h) ∙ sym e) f
+  unfolding writeInto writing
+  write-refused h r e f = behind-passes _ Room _ (le-ltb _ _ h) ∙ unless-refused _ _ r (sym e) f
 
   pub write-done : longest p ≤ n → (r : Refusal) → r ≡ first (writeChecks p s) → fine r ≡ true → writeInto p s n ≡ gives (signature p s)
-  unfolding writeInto
-  write-done h r e f = unless-given _ _ r (skip _ Room _ (le-ltb _ _ h) ∙ sym e) f
+  unfolding writeInto writing
+  write-done h r e f = behind-passes _ Room _ (le-ltb _ _ h) ∙ unless-given _ _ r (sym e) f
 
 -- ---- for the set of a number
 

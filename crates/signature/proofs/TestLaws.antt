@@ -12,10 +12,10 @@ use Rattle.slices.specs.Slices.{Bytes, part}
 use Rattle.bits.specs.Bytes.{width}
 use Rattle.sets.specs.declared.Set.{Set}
 use Rattle.sets.specs.Sets.{IsSet}
-use Rattle.sets.specs.Lengths.{w, salt, roundLeast, roundMost, unpackedLength}
-use Rattle.shape.specs.Fields.{all, isZero, padded, cleanSlots}
+use Rattle.sets.specs.Lengths.{w, saltLength, roundLeast, roundMost, unpackedLength, transcriptBits}
+use Rattle.shape.specs.Fields.{all, isZero, zeroPadded, cleanSlots}
 use Rattle.shape.specs.Header.{isValue}
-use Rattle.shape.specs.Rounds.{gates, round, fields}
+use Rattle.shape.specs.Rounds.{roundFields, fields}
 use Rattle.shape.specs.Form.{valuesIn, slotAt}
 use Rattle.shape.specs.Reading.{valueWrong, slotWrong}
 use Rattle.shape.proofs.PaddingLaws.{all-more, all-fails, padded-whole}
@@ -23,7 +23,7 @@ use Rattle.shape.proofs.RoundLaws.{slots-zero, slots-other}
 use Rattle.shape.proofs.RoundTripsProof.{length-valuesIn}
 use Rattle.shape.proofs.FormLaws.{slot-first, slot-more, slot-within, slots-more, slots-fails}
 use Rattle.shape.proofs.FitLaws.{slots-none}
-use Rattle.shape.proofs.SetFacts.{seeds-whole, shares-whole, some-gates, gates≤}
+use Rattle.shape.proofs.SetFacts.{seeds-whole, shares-whole, some-gates, transcriptBits≤}
 
 -- ---- a test of each byte
 
@@ -52,29 +52,29 @@ passed-all {q} {vs} {n} {i} h l = let e : n ≡ i = omega (arith, h .far) in ap 
 -- ---- a slot
 
 -- a transcript lies in its slot
-pub transcript-inside : {p : Set} → IsSet p → (at n m : ℕ) → at + roundMost p ≤ n → m ≡ gates p
+pub transcript-inside : {p : Set} → IsSet p → (at n m : ℕ) → at + roundMost p ≤ n → m ≡ transcriptBits p
     → (0 < m) × ((m ≤ 65536) × (at + p .digest + width m ≤ n))
-transcript-inside q at n m h e = rw e (some-gates q, (omega (arith, gates≤ q), omega arith))
+transcript-inside q at n m h e = rw e (some-gates q, (omega (arith, transcriptBits≤ q), omega arith))
 
-module _ {p : Set} (q : IsSet p) (e at : ℕ) (x : Bytes) (m : ℕ) (em : m ≡ gates p) where
-  transcript-bits : {b : Bool} → b ≡ padded m (drop (at + p .digest) x) → padded (gates p) (drop (p .digest) (drop at x)) ≡ b
+module _ {p : Set} (q : IsSet p) (e at : ℕ) (x : Bytes) (m : ℕ) (em : m ≡ transcriptBits p) where
+  transcript-bits : {b : Bool} → b ≡ zeroPadded m (drop (at + p .digest) x) → zeroPadded (transcriptBits p) (drop (p .digest) (drop at x)) ≡ b
   transcript-bits g = rw (drop-drop, ← em) (sym g)
 
-  pub slot-fails : false ≡ padded m (drop (at + p .digest) x) → false ≡ cleanSlots (round p e) (drop at x)
+  pub slot-fails : false ≡ zeroPadded m (drop (at + p .digest) x) → false ≡ cleanSlots (roundFields p e) (drop at x)
   slot-fails g = sym (go (eqb e 0) refl)
     where
-      go : (b : Bool) → eqb e 0 ≡ b → cleanSlots (round p e) (drop at x) ≡ false
+      go : (b : Bool) → eqb e 0 ≡ b → cleanSlots (roundFields p e) (drop at x) ≡ false
       go true z = slots-zero p (seeds-whole q) e (drop at x) (eqb-true e 0 z) ∙ rw (transcript-bits g)
       go false z = slots-other p (seeds-whole q) e (drop at x) (eqb-false e 0 z) ∙ rw (transcript-bits g)
 
-  module _ (g : true ≡ padded m (drop (at + p .digest) x)) where
-    pub slot-other : (e ≡ 0 → ⊥) → true ≡ cleanSlots (round p e) (drop at x)
+  module _ (g : true ≡ zeroPadded m (drop (at + p .digest) x)) where
+    pub slot-other : (e ≡ 0 → ⊥) → true ≡ cleanSlots (roundFields p e) (drop at x)
     slot-other z =
         sym (slots-other p (seeds-whole q) e (drop at x) z
         ∙ rw (transcript-bits g, padded-whole (p .n) (shares-whole q) (drop (roundLeast p) (drop at x))))
 
     pub slot-zero : e ≡ 0 → (l n : ℕ) → l ≡ roundLeast p → n ≡ w p → (b : Bool) → b ≡ all isZero (part x (at + l) n)
-        → b ≡ cleanSlots (round p e) (drop at x)
+        → b ≡ cleanSlots (roundFields p e) (drop at x)
     slot-zero z l n el en b eb =
         eb ∙ sym (slots-zero p (seeds-whole q) e (drop at x) z ∙ rw (transcript-bits g, drop-drop, ← el, ← en))
 
@@ -85,18 +85,18 @@ pub record Cleaned (p : Set) (x : Bytes) (at k : ℕ) : Type 0 where
   pub is : at ≡ slotAt p k
   pub cleaned : cleanSlots (fields p (take k (valuesIn p x))) (drop (p .t) x) ≡ true
 
-pub cleaned-none : (p : Set) (x : Bytes) (at : ℕ) → at ≡ p .t + salt → Cleaned p x at 0
+pub cleaned-none : (p : Set) (x : Bytes) (at : ℕ) → at ≡ p .t + saltLength → Cleaned p x at 0
 cleaned-none p x at e = record { far = omega arith; is = e ∙ sym (slot-first p); cleaned = slots-none p (drop (p .t) x) }
 
 module _ {p : Set} {x : Bytes} {at k : ℕ} (r : Cleaned p x at k) (l : length x ≡ unpackedLength p) where
   pub cleaned-inside : k < p .t → at + roundMost p ≤ length x
   cleaned-inside h = omega (arith, r .is, slot-within p k h)
 
-  there : k < p .t → {b : Bool} → b ≡ cleanSlots (round p (getD x k 0)) (drop at x)
-      → cleanSlots (round p (getD (valuesIn p x) k 0)) (drop (slotAt p k) x) ≡ b
+  there : k < p .t → {b : Bool} → b ≡ cleanSlots (roundFields p (getD x k 0)) (drop at x)
+      → cleanSlots (roundFields p (getD (valuesIn p x) k 0)) (drop (slotAt p k) x) ≡ b
   there h e = rw (getD-take (p .t) x k 0 h, ← (r .is)) (sym e)
 
-  pub cleaned-more : k < p .t → true ≡ cleanSlots (round p (getD x k 0)) (drop at x) → (n : ℕ) → n ≡ roundMost p
+  pub cleaned-more : k < p .t → true ≡ cleanSlots (roundFields p (getD x k 0)) (drop at x) → (n : ℕ) → n ≡ roundMost p
       → Cleaned p x (at + n) (k + 1)
   cleaned-more h e n g =
       record {
@@ -105,7 +105,7 @@ module _ {p : Set} {x : Bytes} {at k : ℕ} (r : Cleaned p x at k) (l : length x
         cleaned = slots-more p (valuesIn p x) k (omega (arith, length-valuesIn p x l)) x (r .cleaned) (there h e);
       }
 
-  pub cleaned-fails : k < p .t → false ≡ cleanSlots (round p (getD x k 0)) (drop at x) → true ≡ slotWrong p x
+  pub cleaned-fails : k < p .t → false ≡ cleanSlots (roundFields p (getD x k 0)) (drop at x) → true ≡ slotWrong p x
   unfolding slotWrong
   cleaned-fails h e = ap not (sym (slots-fails p (valuesIn p x) k (omega (arith, length-valuesIn p x l)) x (there h e)))
 

@@ -3,22 +3,22 @@ ghost use mathlib.Core.Path.{_≡_};
 ghost use Prim.Native.Nat.{_+_, _≤_};
 ghost use lib.ListN.{length, drop};
 ghost use Rattle.slices.specs.Slices.{part, put, over};
-ghost use Rattle.sets.specs.Sets.{IsSet, numbered};
-ghost use Rattle.sets.specs.Lengths.{salt, header, roundMost, longest, unpackedLength};
+ghost use Rattle.sets.specs.Sets.{IsSet};
+ghost use Rattle.sets.specs.Lengths.{saltLength, headerLength, roundMost, longest, unpackedLength};
 ghost use Rattle.answers.specs.Answers.{first};
 ghost use Rattle.answers.specs.Outcome.{Promise};
 ghost use Rattle.shape.specs.Fields.{sizes, unpack, pack, all, isZero, cleanSlots};
 ghost use Rattle.shape.specs.Header.{values};
-ghost use Rattle.shape.specs.Rounds.{round, rounds, signatureLength};
+ghost use Rattle.shape.specs.Rounds.{roundFields, roundsFields, signatureLength};
 ghost use Rattle.shape.specs.Form.{form, valuesIn, signature};
-ghost use Rattle.shape.specs.Reading.{valueWrong, slotWrong, writeChecks, readInto, writeInto, read, write};
+ghost use Rattle.shape.specs.Reading.{valueWrong, slotWrong, writeChecks, readInto, writeInto, ReadPromise, WritePromise};
 use answers::Refusal;
 use sets::Chosen;
 use sets::Set;
 
 // The values of a header, one a byte, at the start of an output.
 fn put_values(p: Set, s: &[u8], output: &mut [u8])
-    requires { ⌜ IsSet p × ((header p ≤ length (now s)) × (p .t ≤ length (now output))) ⌝ }
+    requires { ⌜ IsSet p × ((headerLength p ≤ length (now s)) × (p .t ≤ length (now output))) ⌝ }
     ensures { λ _. ⌜ now (output .exit) ≡ over (values p (now (s .entry))) (now (output .entry)) ⌝ }
 {
     let t = p.t;
@@ -31,8 +31,8 @@ fn put_values(p: Set, s: &[u8], output: &mut [u8])
 
 // A round of value e, from its start in a signature to its slot; where e is 0 the slot ends in zeros.
 fn put_slot(p: Set, e: u8, s: &[u8], at: usize, output: &mut [u8], to: usize)
-    requires { ⌜ IsSet p × ((at + sizes (round p e) ≤ length (now s)) × (to + roundMost p ≤ length (now output))) ⌝ }
-    ensures { λ _. ⌜ now (output .exit) ≡ put (now (output .entry)) to (unpack (round p e) (drop at (now (s .entry)))) ⌝ }
+    requires { ⌜ IsSet p × ((at + sizes (roundFields p e) ≤ length (now s)) × (to + roundMost p ≤ length (now output))) ⌝ }
+    ensures { λ _. ⌜ now (output .exit) ≡ put (now (output .entry)) to (unpack (roundFields p e) (drop at (now (s .entry)))) ⌝ }
 {
     let n = parts::round_length(p, e);
     let end = at + n;
@@ -48,8 +48,8 @@ fn put_slot(p: Set, e: u8, s: &[u8], at: usize, output: &mut [u8], to: usize)
 fn put_slots(p: Set, s: &[u8], output: &mut [u8])
     requires { ⌜ IsSet p × ((length (now s) ≡ signatureLength p (values p (now s))) × (unpackedLength p ≤ length (now output))) ⌝ }
     ensures { λ _. ⌜
-        now (output .exit) ≡ put (now (output .entry)) (p .t + salt)
-        (unpack (rounds p (values p (now (s .entry)))) (drop (header p + salt) (now (s .entry))))
+        now (output .exit) ≡ put (now (output .entry)) (p .t + saltLength)
+        (unpack (roundsFields p (values p (now (s .entry)))) (drop (headerLength p + saltLength) (now (s .entry))))
         ⌝ }
 {
     let t = p.t;
@@ -112,7 +112,7 @@ fn zeros(x: &[u8], at: usize, n: usize) -> bool
 // The slot of a round of value e has zero padding, and a zero share where e is 0.
 fn slot_clean(p: Set, e: u8, x: &[u8], at: usize) -> bool
     requires { ⌜ IsSet p × (at + roundMost p ≤ length (now x)) ⌝ }
-    ensures { λ b. ⌜ b ≡ cleanSlots (round p e) (drop at (now (x .entry))) ⌝ }
+    ensures { λ b. ⌜ b ≡ cleanSlots (roundFields p e) (drop at (now (x .entry))) ⌝ }
 {
     if !parts::padded(x, at + p.digest, parts::gates(p)) {
         return false;
@@ -164,8 +164,8 @@ fn put_rounds(p: Set, x: &[u8], output: &mut [u8]) -> usize
     requires { ⌜ IsSet p × ((length (now x) ≡ unpackedLength p) × (longest p ≤ length (now output))) ⌝ }
     ensures { λ n. ⌜
         (n ≡ signatureLength p (valuesIn p (now (x .entry))))
-        × (now (output .exit) ≡ put (now (output .entry)) (header p + salt)
-        (pack (rounds p (valuesIn p (now (x .entry)))) (drop (p .t + salt) (now (x .entry)))))
+        × (now (output .exit) ≡ put (now (output .entry)) (headerLength p + saltLength)
+        (pack (roundsFields p (valuesIn p (now (x .entry)))) (drop (p .t + saltLength) (now (x .entry)))))
         ⌝ }
 {
     let t = p.t;
@@ -238,7 +238,7 @@ fn write_into(p: Set, x: &[u8], output: &mut [u8]) -> u64
 // A signature into its unpacked form: what the exported call does.
 pub fn read(set: u64, s: &[u8], output: &mut [u8]) -> u64
     ensures { λ r. ⌜
-        Promise (read (numbered set) (now (s .entry)) (length (now (output .entry)))) (now (output .entry)) r (now (output .exit))
+        ReadPromise set (now (s .entry)) (now (output .entry)) r (now (output .exit))
         ⌝ }
 {
     let chosen = Set::numbered(set);
@@ -251,7 +251,7 @@ pub fn read(set: u64, s: &[u8], output: &mut [u8]) -> u64
 // An unpacked form into its signature: what the exported call does.
 pub fn write(set: u64, x: &[u8], output: &mut [u8]) -> u64
     ensures { λ r. ⌜
-        Promise (write (numbered set) (now (x .entry)) (length (now (output .entry)))) (now (output .entry)) r (now (output .exit))
+        WritePromise set (now (x .entry)) (now (output .entry)) r (now (output .exit))
         ⌝ }
 {
     let chosen = Set::numbered(set);

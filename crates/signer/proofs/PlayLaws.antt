@@ -2,7 +2,7 @@
 use mathlib.Core.Path.{_≡_, refl, sym, ap, _∙_, subst}
 use mathlib.Core.Bool.{false}
 use mathlib.Core.List.{List}
-use Prim.Native.Nat.{ℕ, zero, suc, _*_, _≤_, _<_}
+use Prim.Native.Nat.{ℕ, _*_, _≤_}
 use native.Mathlib.Omega.{arith}
 use lib.ListN.{length, take}
 use Rattle.slices.specs.Slices.{Bytes}
@@ -14,14 +14,14 @@ use Rattle.bits.proofs.BytesLaws.{bits-past, bits-of-bytesOf, length-bytesOf}
 use Rattle.sets.specs.declared.Set.{Set}
 use Rattle.sets.specs.Sets.{IsSet}
 use Rattle.circuit.specs.Lowmc.{Cipher, stateAfter}
-use Rattle.circuit.specs.Round.{Party, party0, party1, party2}
-use Rattle.circuit.specs.Tapes.{number, gateBits}
+use Rattle.circuit.specs.Round.{Party, party0, party1, party2, byParty}
+use Rattle.circuit.specs.Tapes.{partyNumber, gateBits}
 use Rattle.round.specs.declared.Shares.{Shares}
 use Rattle.round.specs.declared.View.{View}
-use Rattle.round.specs.Engine.{share, said, Written, Traced, Simulated}
-use Rattle.round.specs.Inputs.{byParty, inputShare, tapesOf}
+use Rattle.round.specs.Engine.{shareIn, said, Written, Traced, Simulated}
+use Rattle.round.specs.Inputs.{inputShare, tapesOf}
 use Rattle.hashing.specs.Hashing.{commitment}
-use Rattle.challenge.proofs.BlocksLaws.{length-h}
+use Rattle.hashing.proofs.HashingLaws.{length-h}
 use Rattle.views.specs.Parties.{three}
 use Rattle.views.specs.Signed.{shares, shareBits, gateRows, outputs, transcripts, tapes, commitments}
 use Rattle.room.proofs.LengthLaws.{length-three}
@@ -31,27 +31,20 @@ use Rattle.signer.specs.Played.{saidBy, PlayedAs}
 -- ---- which party a number names
 
 module _ {A : Type 0} (f : Party → A) (j : ℕ) where
-  pub at-zero : j ≡ 0 → (k : Party) → j ≡ number k → f party0 ≡ f k
+  pub at-zero : j ≡ 0 → (k : Party) → j ≡ partyNumber k → f party0 ≡ f k
   at-zero h party0 e = refl
   at-zero h party1 e = absurd (omega arith)
   at-zero h party2 e = absurd (omega arith)
 
-  pub at-one : j ≡ 1 → (k : Party) → j ≡ number k → f party1 ≡ f k
+  pub at-one : j ≡ 1 → (k : Party) → j ≡ partyNumber k → f party1 ≡ f k
   at-one h party0 e = absurd (omega arith)
   at-one h party1 e = refl
   at-one h party2 e = absurd (omega arith)
 
-  pub at-two : (j ≡ 0 → ⊥) → (j ≡ 1 → ⊥) → (k : Party) → j ≡ number k → f party2 ≡ f k
+  pub at-two : (j ≡ 0 → ⊥) → (j ≡ 1 → ⊥) → (k : Party) → j ≡ partyNumber k → f party2 ≡ f k
   at-two g h party0 e = absurd (g e)
   at-two g h party1 e = absurd (h e)
   at-two g h party2 e = refl
-
--- what follows for every party follows for a number below 3
-pub by-number : {P : Type 0} (j : ℕ) → j < 3 → ((k : Party) → j ≡ number k → P) → P
-by-number zero l f = f party0 refl
-by-number (suc zero) l f = f party1 refl
-by-number (suc (suc zero)) l f = f party2 refl
-by-number (suc (suc (suc j))) l f = absurd (omega arith)
 
 -- ---- input shares as bytes
 
@@ -75,14 +68,14 @@ pub traced-as : (C : Cipher) (k k′ b b′ : Bits) (t : List ℕ) → k′ ≡ 
 traced-as C k k′ b b′ t ek eb h i l = h i l ∙ λ z. stateAfter C (sym ek z) (sym eb z) i
 
 module _ (C : Cipher) (secret t0 t1 t2 : Bytes) (fits : 8 * length secret ≤ C .n) (x : Shares)
-    (hx : (j : Party) → share x j ≡ inputShare (C .n) (bitsOf secret) t0 t1 j) where
+    (hx : (j : Party) → shareIn x j ≡ inputShare (C .n) (bitsOf secret) t0 t1 j) where
   -- the shares on words are those in bytes
-  share-bits : share x ≡ shareBits C secret (byParty t0 t1 t2)
+  share-bits : shareIn x ≡ shareBits C secret (byParty t0 t1 t2)
   unfolding shares
   share-bits = λ k j. (hx j ∙ kept (C .n) secret t0 t1 fits j) k
 
   -- what a simulation leaves is the round in bytes: r has its shares, and the bytes of its transcripts
-  pub played-as : (block : Bytes) (plain : Bits) → plain ≡ bitsOf block → (v : View) → Simulated C plain (share x) (tapesOf C t0 t1 t2) v
+  pub played-as : (block : Bytes) (plain : Bits) → plain ≡ bitsOf block → (v : View) → Simulated C plain (shareIn x) (tapesOf C t0 t1 t2) v
       → (r : Played) → r .inputs ≡ x → r .outputs ≡ v .out
       → ((j : Party) (u : Rows) → Written (3 * C .s) (C .r) u (said v j) → take (width (gateBits C)) (saidBy r j) ≡ bytesOf (gateBits C) (flat (3 * C .s) u))
       → PlayedAs C secret (byParty t0 t1 t2) block r
@@ -90,10 +83,10 @@ module _ (C : Cipher) (secret t0 t1 t2 : Bytes) (fits : 8 * length secret ≤ C 
   played-as block plain e v h r ei eo es =
       let s : Simulated C (bitsOf block) (shareBits C secret (byParty t0 t1 t2)) (gateRows C secret (byParty t0 t1 t2)) v =
       subst (λ (z : Party → Bits). Simulated C (bitsOf block) z (tapesOf C t0 t1 t2) v) share-bits
-      (subst (λ (b : Bits). Simulated C b (share x) (tapesOf C t0 t1 t2) v) e h) in
+      (subst (λ (b : Bits). Simulated C b (shareIn x) (tapesOf C t0 t1 t2) v) e h) in
       record {
-        inputs = λ j. ap (λ (z : Shares). bytesOf (C .n) (share z j)) ei ∙ ap (bytesOf (C .n)) (hx j);
-        outputs = λ j. ap (λ (z : Shares). bytesOf (C .n) (share z j)) eo ∙ ap (bytesOf (C .n)) (s .outputs j);
+        inputs = λ j. ap (λ (z : Shares). bytesOf (C .n) (shareIn z j)) ei ∙ ap (bytesOf (C .n)) (hx j);
+        outputs = λ j. ap (λ (z : Shares). bytesOf (C .n) (shareIn z j)) eo ∙ ap (bytesOf (C .n)) (s .outputs j);
         said = λ j. es j _ (s .transcripts j);
       }
 
@@ -111,7 +104,7 @@ played-over C secret t0 t1 t2 tapes b block r e0 e1 e2 e h =
 
 -- what is hashed for party k of a round that is played, from its parts
 pub commitment-as : (p : Set) (C : Cipher) (salt : Bytes) (t : ℕ) (seeds : Party → Bytes) (secret block : Bytes) (r : Played) (k : Party) {seed s : Bytes} {x y : Bits} {d : Bytes}
-    → PlayedAs C secret (tapes p C salt t seeds) block r → seed ≡ seeds k → x ≡ share (r .inputs) k → s ≡ saidBy r k → y ≡ share (r .outputs) k
+    → PlayedAs C secret (tapes p C salt t seeds) block r → seed ≡ seeds k → x ≡ shareIn (r .inputs) k → s ≡ saidBy r k → y ≡ shareIn (r .outputs) k
     → d ≡ commitment p seed (bytesOf (C .n) x) (take (width (gateBits C)) s) (bytesOf (C .n) y)
     → d ≡ commitments p C salt t seeds secret block k
 unfolding commitments

@@ -7,10 +7,10 @@ use Rattle.slices.specs.Slices.{Bytes, part}
 use Rattle.bits.specs.Bytes.{width}
 use Rattle.sets.specs.declared.Set.{Set}
 use Rattle.sets.specs.Sets.{IsSet}
-use Rattle.sets.specs.Lengths.{seedWidth, salt, seedsLength}
+use Rattle.sets.specs.Lengths.{seedWidth, saltLength, seedsLength}
 use Rattle.sets.proofs.Each.{most}
 use Rattle.circuit.specs.Round.{Party, party0, party1, party2}
-use Rattle.circuit.specs.Tapes.{number}
+use Rattle.circuit.specs.Tapes.{partyNumber}
 use Rattle.lowmc.proofs.LentLaws.{row-room}
 use Rattle.shape.proofs.PartLaws.{length-part}
 use Rattle.views.specs.Signed.{seedAt, saltAt}
@@ -44,36 +44,36 @@ module _ {p : Set} (s : Bytes) {t x : ℕ} (h : IsSet p) (q : length s ≡ seeds
   placed-next e = placed (omega arith)
 
 -- the lent part is the seed of the party whose number is j
-pub seed-part : (p : Set) (s : Bytes) (x : ℕ) → x ≡ seedWidth p → (t j : ℕ) (k : Party) → j ≡ number k
+pub seed-part : (p : Set) (s : Bytes) (x : ℕ) → x ≡ seedWidth p → (t j : ℕ) (k : Party) → j ≡ partyNumber k
     → take ((3 * t + j) * x + x - (3 * t + j) * x) (drop ((3 * t + j) * x) s) ≡ seedAt p s t k
 seed-part p s x e t j k q =
     let z : (3 * t + j) * x + x - (3 * t + j) * x ≡ x = omega arith in
     ap (λ (n : ℕ). part s ((3 * t + j) * x) n) z ∙ λ i. part s ((3 * t + q i) * e i) (e i)
 
-number-small : (k : Party) → number k < 3
+number-small : (k : Party) → partyNumber k < 3
 number-small party0 = omega arith
 number-small party1 = omega arith
 number-small party2 = omega arith
 
 pub length-seed : (p : Set) (s : Bytes) (t : ℕ) → length s ≡ seedsLength p → t < p .t → (k : Party) → length (seedAt p s t k) ≡ seedWidth p
 length-seed p s t h l k =
-    length-part s ((3 * t + number k) * seedWidth p) (seedWidth p)
-    (omega (arith, row-room (3 * t + number k) (3 * p .t) (seedWidth p) (omega (arith, number-small k))))
+    length-part s ((3 * t + partyNumber k) * seedWidth p) (seedWidth p)
+    (omega (arith, row-room (3 * t + partyNumber k) (3 * p .t) (seedWidth p) (omega (arith, number-small k))))
 
 -- ---- the salt, by the code's width x of a seed
 
 module _ (p : Set) (s : Bytes) where
-  pub length-salt : length s ≡ seedsLength p → length (saltAt p s) ≡ salt
+  pub length-salt : length s ≡ seedsLength p → length (saltAt p s) ≡ saltLength
   length-salt h = omega (arith, length-drop (3 * p .t * seedWidth p) s)
 
   module _ (x : ℕ) (e : x ≡ seedWidth p) where
     -- it lies behind all seeds
-    pub salt-place : length s ≡ seedsLength p → 3 * p .t * x + salt ≡ length s
+    pub salt-place : length s ≡ seedsLength p → 3 * p .t * x + saltLength ≡ length s
     salt-place h = rw e (sym h)
 
     -- the lent part is the salt
     pub salt-part : take (length s - 3 * p .t * x) (drop (3 * p .t * x) s) ≡ saltAt p s
     salt-part = rest-as s (3 * p .t * x) (3 * p .t * seedWidth p) (ap (λ (n : ℕ). 3 * p .t * n) e)
 
-    pub length-salt-part : length s ≡ seedsLength p → length (take (length s - 3 * p .t * x) (drop (3 * p .t * x) s)) ≡ salt
+    pub length-salt-part : length s ≡ seedsLength p → length (take (length s - 3 * p .t * x) (drop (3 * p .t * x) s)) ≡ saltLength
     length-salt-part h = ap length salt-part ∙ length-salt h

@@ -23,7 +23,7 @@ use Rattle.answers.proofs.ConditionsLaws.{neither, same-length, tables-same, ke
 use Rattle.circuit.specs.Lowmc.{Cipher, encryption}
 use Rattle.circuit.specs.Round.{Party}
 use Rattle.lowmc.specs.Lent.{cipherOf, Lent}
-use Rattle.lowmc.specs.Encrypted.{encrypted}
+use Rattle.lowmc.specs.Encrypted.{encrypted, plaintext, ciphertext}
 use Rattle.lowmc.proofs.LentLaws.{block-small}
 use Rattle.round.specs.Engine.{stateOf, Traced}
 use Rattle.hashing.specs.Hashing.{h}
@@ -36,7 +36,7 @@ use Rattle.challenge.proofs.FillingLaws.{fills-short, fills-full, fills-front}
 use Rattle.shape.specs.Header.{AreValues}
 use Rattle.views.specs.Parties.{three}
 use Rattle.views.specs.Signed.{saltAt}
-use Rattle.views.specs.Input.{plaintext, ciphertext, byRound, filling, challengeInput, signedOutputs, signedCommitments, signerFilling}
+use Rattle.views.specs.Input.{byRound, filling, challengeInput, signedOutputs, signedCommitments, signerFilling}
 use Rattle.room.specs.Room.{clears, roomAfter}
 use Rattle.room.proofs.RoomLaws.{sizes, take-as, filled-from, rest-as}
 use Rattle.room.proofs.AfterLaws.{filled-front, filled-cleared, keeps-first}
@@ -185,11 +185,11 @@ by-cases true f h = f refl
 by-cases false f h = h refl
 
 module _ (g : Given) (a : ℕ) where
-  pub no-set : numbered (g .set) ≡ Unknown → a ≡ answer NoSet 0 → Signed g a (g .room) (g .output)
+  pub no-set : numbered (g .setNumber) ≡ Unknown → a ≡ answer NoSet 0 → Signed g a (g .room) (g .output)
   unfolding refusalFor written roomAfter over
   no-set e q = record { answered = rw e q; left-room = rw e; left-output = rw e }
 
-  module _ {p : Set} (e : numbered (g .set) ≡ Known p) where
+  module _ {p : Set} (e : numbered (g .setNumber) ≡ Known p) where
     -- a check holds that keeps the room
     kept : (r : Refusal) → first (checks p g) ≡ r → fine r ≡ false → clears r ≡ false → a ≡ answer r 0 → Signed g a (g .room) (g .output)
     unfolding refusalFor written roomAfter over

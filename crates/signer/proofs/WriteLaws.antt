@@ -12,12 +12,12 @@ use Rattle.slices.specs.Slices.{Bytes}
 use Rattle.bits.specs.Bytes.{bytesOf}
 use Rattle.sets.specs.declared.Set.{Set}
 use Rattle.sets.specs.Sets.{IsSet}
-use Rattle.sets.specs.Lengths.{w, seedWidth, transcript, seedsLength}
+use Rattle.sets.specs.Lengths.{w, seedWidth, transcriptLength, seedsLength}
 use Rattle.circuit.specs.Lowmc.{Cipher}
 use Rattle.circuit.specs.Round.{Party, party0, party1, party2, next, third}
-use Rattle.circuit.specs.Tapes.{number}
+use Rattle.circuit.specs.Tapes.{partyNumber}
 use Rattle.lowmc.specs.Lent.{cipherOf}
-use Rattle.round.specs.Engine.{share}
+use Rattle.round.specs.Engine.{shareIn}
 use Rattle.round.proofs.InputsLaws.{next-number}
 use Rattle.shape.specs.Form.{Shown, Sized}
 use Rattle.parts.specs.Places.{showing}
@@ -32,16 +32,16 @@ use Rattle.signer.proofs.SeedLaws.{seed-part, length-seed}
 -- ---- parties by number
 
 -- that of the party behind it
-pub number-after : (e : ℕ) → e < 3 → (e + 1) % 3 ≡ number (next (partyOf e))
+pub number-after : (e : ℕ) → e < 3 → (e + 1) % 3 ≡ partyNumber (next (partyOf e))
 number-after e h = next-number e (partyOf e) (number-of e h)
 
-third-number : (k : ℕ) (j : Party) → k ≡ number j → (k + 2) % 3 ≡ number (third j)
+third-number : (k : ℕ) (j : Party) → k ≡ partyNumber j → (k + 2) % 3 ≡ partyNumber (third j)
 third-number k party0 e = ap (λ (z : ℕ). (z + 2) % 3) e
 third-number k party1 e = ap (λ (z : ℕ). (z + 2) % 3) e
 third-number k party2 e = ap (λ (z : ℕ). (z + 2) % 3) e
 
 -- that of the third
-pub number-last : (e : ℕ) → e < 3 → (e + 2) % 3 ≡ number (third (partyOf e))
+pub number-last : (e : ℕ) → e < 3 → (e + 2) % 3 ≡ partyNumber (third (partyOf e))
 number-last e h = third-number e (partyOf e) (number-of e h)
 
 -- ---- the share that is shown
@@ -61,7 +61,7 @@ some-share n e z h = rw (ne-eqb e 0 z) h
 
 -- ---- a round's parts, by the code's lengths m of a transcript, k of a share and s of a seed
 
-module _ (p : Set) (t e m k s : ℕ) (em : m ≡ transcript p) (ek : k ≡ w p) (es : s ≡ seedWidth p) (commitment said share seeds : Bytes) where
+module _ (p : Set) (t e m k s : ℕ) (em : m ≡ transcriptLength p) (ek : k ≡ w p) (es : s ≡ seedWidth p) (commitment said share seeds : Bytes) where
   abbrev firstAt : ℕ
   firstAt = (3 * t + e) * s
 
@@ -87,7 +87,7 @@ module _ (p : Set) (t e m k s : ℕ) (em : m ≡ transcript p) (ek : k ≡ w p) 
 
   -- they are the parts of parties e and e+1
   pub lent-parts : e < 3
-      → lent ≡ showing (take (p .digest) commitment) (take (transcript p) said) (seedAt p seeds t (partyOf e)) (seedAt p seeds t (next (partyOf e)))
+      → lent ≡ showing (take (p .digest) commitment) (take (transcriptLength p) said) (seedAt p seeds t (partyOf e)) (seedAt p seeds t (next (partyOf e)))
       (take (w p) share)
   lent-parts n =
       let a = seed-part p seeds s es t e (partyOf e) (number-of e n) in
@@ -114,11 +114,11 @@ module _ (p : Set) (keys layers constants secret block seeds : Bytes) (t e : ℕ
   pub shown-as : (x : Played) (commitment said share′ : Bytes) → PlayedAs C secret ts block x
       → commitment ≡ commitments p C (saltAt p seeds) t (seedAt p seeds t) secret block (third (partyOf e))
       → said ≡ saidBy x (next (partyOf e))
-      → share′ ≡ cond (eqb e 0) (replicate (w p) 0) (bytesOf (p .n) (share (x .inputs) party2))
-      → showing commitment (take (transcript p) said) (seedAt p seeds t (partyOf e)) (seedAt p seeds t (next (partyOf e))) share′
+      → share′ ≡ cond (eqb e 0) (replicate (w p) 0) (bytesOf (p .n) (shareIn (x .inputs) party2))
+      → showing commitment (take (transcriptLength p) said) (seedAt p seeds t (partyOf e)) (seedAt p seeds t (next (partyOf e))) share′
       ≡ shown p C (saltAt p seeds) t (seedAt p seeds t) secret block (partyOf e)
   unfolding shown
   shown-as x commitment said share′ h ec es ex =
-      let r = ap (take (transcript p)) es ∙ h .said (next (partyOf e)) in
-      let y = ex ∙ shared (bytesOf (p .n) (share (x .inputs) party2)) (h .inputs party2) (eqb e 0) (eqb e 1) in
+      let r = ap (take (transcriptLength p)) es ∙ h .said (next (partyOf e)) in
+      let y = ex ∙ shared (bytesOf (p .n) (shareIn (x .inputs) party2)) (h .inputs party2) (eqb e 0) (eqb e 1) in
       λ i. showing (ec i) (r i) (seedAt p seeds t (partyOf e)) (seedAt p seeds t (next (partyOf e))) (y i)

@@ -10,15 +10,15 @@ use Rattle.slices.proofs.SliceLaws.{over-put, put-none, length-put}
 use Rattle.bits.proofs.BytesLaws.{length-bytesOf}
 use Rattle.sets.specs.declared.Set.{Set}
 use Rattle.sets.specs.Sets.{IsSet}
-use Rattle.sets.specs.Lengths.{w, seedWidth, salt, header, seedsLength, longest}
+use Rattle.sets.specs.Lengths.{w, seedWidth, saltLength, headerLength, seedsLength, longest}
 use Rattle.circuit.specs.Lowmc.{Cipher}
 use Rattle.circuit.specs.Round.{Party, party0, party1, party2, next}
 use Rattle.lowmc.specs.Lent.{cipherOf}
 use Rattle.hashing.specs.Hashing.{commitment}
-use Rattle.challenge.proofs.BlocksLaws.{length-h}
+use Rattle.hashing.proofs.HashingLaws.{length-h}
 use Rattle.shape.specs.Fields.{sizes}
 use Rattle.shape.specs.Header.{headerOf}
-use Rattle.shape.specs.Rounds.{round, start}
+use Rattle.shape.specs.Rounds.{roundFields, roundStart}
 use Rattle.shape.specs.Form.{Shown, Sized, roundOf}
 use Rattle.shape.proofs.SetFacts.{longest≤}
 use Rattle.shape.proofs.PartLaws.{put-joined}
@@ -33,8 +33,8 @@ use Rattle.signer.proofs.SeedLaws.{length-seed, length-salt, salt-part}
 -- ---- header and salt
 
 -- the salt is put behind the header, where x is the code's width of a seed and n its length of a header
-pub front-put : (p : Set) (seeds es out : Bytes) (x n : ℕ) → length seeds ≡ seedsLength p → header p + salt ≤ length out → x ≡ seedWidth p
-    → n ≡ header p → {out1 out2 : Bytes} → out1 ≡ over (headerOf p es) out
+pub front-put : (p : Set) (seeds es out : Bytes) (x n : ℕ) → length seeds ≡ seedsLength p → headerLength p + saltLength ≤ length out → x ≡ seedWidth p
+    → n ≡ headerLength p → {out1 out2 : Bytes} → out1 ≡ over (headerOf p es) out
     → out2 ≡ put out1 n (take (length seeds - 3 * p .t * x) (drop (3 * p .t * x) seeds)) → out2 ≡ over (headerOf p es ++ saltAt p seeds) out
 front-put p seeds es out x n h f e en {out1} {out2} a b =
     let l : n ≡ length (headerOf p es) = en ∙ sym (length-header p es) in
@@ -80,16 +80,16 @@ roundAt p C secret public seeds es t = roundOf p (getD es t 0) (shownAt p C secr
 -- the first t rounds are written, and the next one starts at a place
 pub record Rounds (p : Set) (C : Cipher) (secret public seeds es out₀ : Bytes) (t at : ℕ) (out : Bytes) : Type 0 where
   pub far : t ≤ p .t
-  pub at-is : at ≡ start p es t
-  pub is : out ≡ put out₀ (header p + salt) (joined t (roundAt p C secret public seeds es))
+  pub at-is : at ≡ roundStart p es t
+  pub is : out ≡ put out₀ (headerLength p + saltLength) (joined t (roundAt p C secret public seeds es))
 
-pub rounds-none : (p : Set) (C : Cipher) (secret public seeds es out₀ : Bytes) (at : ℕ) → at ≡ header p + salt
+pub rounds-none : (p : Set) (C : Cipher) (secret public seeds es out₀ : Bytes) (at : ℕ) → at ≡ headerLength p + saltLength
     → Rounds p C secret public seeds es out₀ 0 at out₀
 unfolding joined
 rounds-none p C secret public seeds es out₀ at e = record {
   far = omega arith;
   at-is = e ∙ sym (start-first p es);
-  is = sym (put-none out₀ (header p + salt));
+  is = sym (put-none out₀ (headerLength p + saltLength));
 }
 
 module _ {p : Set} (h : IsSet p) (keys layers constants secret public seeds es : Bytes) (ls : length seeds ≡ seedsLength p) (le : length es ≡ p .t) where
@@ -105,34 +105,34 @@ module _ {p : Set} (h : IsSet p) (keys layers constants secret public seeds es :
   us-sized : (t : ℕ) → t < p .t → Sized p (us t)
   us-sized t l = shown-sized h keys layers constants secret public seeds ls t l (getD es t 0)
 
-  starts : (t : ℕ) → t ≤ p .t → header p + salt + length (joined t rs) ≡ start p es t
+  starts : (t : ℕ) → t ≤ p .t → headerLength p + saltLength + length (joined t rs) ≡ roundStart p es t
   starts = start-of-round p es (saltAt p seeds) us le (length-salt p seeds ls) us-sized
 
-  start-most : (t : ℕ) → t ≤ p .t → start p es t ≤ longest p
+  start-most : (t : ℕ) → t ≤ p .t → roundStart p es t ≤ longest p
   start-most t l = omega (arith, start-within p es t (omega arith), signature-most p es le)
 
   module _ {out₀ : Bytes} {t at : ℕ} {out : Bytes} (u : Rounds p K secret public seeds es out₀ t at out) (f : longest p ≤ length out₀) where
     pub rounds-length : length out ≡ length out₀
     rounds-length =
         ap length (u .is)
-        ∙ length-put out₀ (header p + salt) (joined t rs) (omega (arith, starts t (u .far), start-most t (u .far)))
+        ∙ length-put out₀ (headerLength p + saltLength) (joined t rs) (omega (arith, starts t (u .far), start-most t (u .far)))
 
     -- the next round has its place
-    pub rounds-inside : t < p .t → at + sizes (round p (getD es t 0)) ≤ length out
+    pub rounds-inside : t < p .t → at + sizes (roundFields p (getD es t 0)) ≤ length out
     rounds-inside l = omega (arith, u .at-is, round-within p es t (omega arith), signature-most p es le, rounds-length)
 
-    pub rounds-more : t < p .t → {n : ℕ} {out1 : Bytes} → n ≡ at + sizes (round p (getD es t 0)) → out1 ≡ put out at (rs t)
+    pub rounds-more : t < p .t → {n : ℕ} {out1 : Bytes} → n ≡ at + sizes (roundFields p (getD es t 0)) → out1 ≡ put out at (rs t)
         → Rounds p K secret public seeds es out₀ (t + 1) n out1
     rounds-more l {n} {out1} en e =
-        let q : at ≡ header p + salt + length (joined t rs) = u .at-is ∙ sym (starts t (u .far)) in
-        let b : length (rs t) ≡ sizes (round p (getD es t 0)) = length-roundOf p (us t) (us-sized t l) (getD es t 0) in
+        let q : at ≡ headerLength p + saltLength + length (joined t rs) = u .at-is ∙ sym (starts t (u .far)) in
+        let b : length (rs t) ≡ sizes (roundFields p (getD es t 0)) = length-roundOf p (us t) (us-sized t l) (getD es t 0) in
         record {
           far = omega arith;
           at-is = omega (arith, u .at-is, start-more p es t (omega arith));
           is =
               e ∙ (ap (λ (y : Bytes). put y at (rs t)) (u .is)
-              ∙ (put-joined out₀ (header p + salt) t rs at q (omega (arith, rounds-inside l, rounds-length))
-              ∙ ap (λ (i : ℕ). put out₀ (header p + salt) (joined i rs)) (sym (add-one t))));
+              ∙ (put-joined out₀ (headerLength p + saltLength) t rs at q (omega (arith, rounds-inside l, rounds-length))
+              ∙ ap (λ (i : ℕ). put out₀ (headerLength p + saltLength) (joined i rs)) (sym (add-one t))));
         }
 
   abbrev head : Bytes
@@ -145,11 +145,11 @@ module _ {p : Set} (h : IsSet p) (keys layers constants secret public seeds es :
   unfolding signatureFor
   whole = signature-of-parts p es last us le (length-salt p seeds ls) us-sized
 
-  length-front : length (head ++ last) ≡ header p + salt
+  length-front : length (head ++ last) ≡ headerLength p + saltLength
   length-front = omega (arith, length-append head last, length-header p es, length-salt p seeds ls)
 
   -- the signature ends where a further round would start
-  length-signature : length (signatureFor p K secret public seeds es) ≡ start p es (p .t)
+  length-signature : length (signatureFor p K secret public seeds es) ≡ roundStart p es (p .t)
   length-signature =
       omega (
         arith,
@@ -171,7 +171,7 @@ module _ {p : Set} (h : IsSet p) (keys layers constants secret public seeds es :
     all = omega (arith, u .far)
 
     pub rounds-end : at ≡ length (signatureFor p K secret public seeds es)
-    rounds-end = u .at-is ∙ (ap (start p es) all ∙ sym length-signature)
+    rounds-end = u .at-is ∙ (ap (roundStart p es) all ∙ sym length-signature)
 
     pub rounds-all : out ≡ over (signatureFor p K secret public seeds es) before
     rounds-all =

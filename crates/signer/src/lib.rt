@@ -12,24 +12,23 @@ ghost use Rattle.bits.specs.Words.{blockBits};
 ghost use Rattle.bits.specs.Rows.{Rows, flat, Rowed};
 ghost use Rattle.sets.specs.declared.Chosen.the-variants.{Known};
 ghost use Rattle.sets.specs.Sets.{IsSet, numbered};
-ghost use Rattle.sets.specs.Lengths.{w, transcript, salt, header, publicLength, roomLength, seedsLength, longest};
+ghost use Rattle.sets.specs.Lengths.{w, transcriptLength, saltLength, headerLength, publicLength, roomLength, seedsLength, longest};
 ghost use Rattle.answers.specs.Answers.{first};
-ghost use Rattle.circuit.specs.Round.{Party, party2, next};
-ghost use Rattle.circuit.specs.Tapes.{number, tapeLength};
+ghost use Rattle.circuit.specs.Round.{Party, party2, next, byParty};
+ghost use Rattle.circuit.specs.Tapes.{partyNumber, tapeLength};
 ghost use Rattle.lowmc.specs.Lent.{cipherOf, Lent};
-ghost use Rattle.lowmc.specs.Encrypted.{encrypted};
-ghost use Rattle.round.specs.Engine.{share, said, Traced, Written};
-ghost use Rattle.round.specs.Inputs.{byParty};
+ghost use Rattle.lowmc.specs.Encrypted.{encrypted, ciphertext, plaintext};
+ghost use Rattle.round.specs.Engine.{shareIn, said, Traced, Written};
 ghost use Rattle.hashing.specs.Hashing.{h, commitment};
 ghost use Rattle.challenge.specs.Filling.{Fills};
 ghost use Rattle.shape.specs.Fields.{sizes};
 ghost use Rattle.shape.specs.Header.{headerOf, AreValues};
-ghost use Rattle.shape.specs.Rounds.{round};
+ghost use Rattle.shape.specs.Rounds.{roundFields};
 ghost use Rattle.shape.specs.Form.{roundOf};
 ghost use Rattle.parts.specs.Places.{showing};
 ghost use Rattle.views.specs.Parties.{partyOf, three};
 ghost use Rattle.views.specs.Signed.{seedAt, saltAt, tapes, commitments, shown};
-ghost use Rattle.views.specs.Input.{ciphertext, plaintext, challengeInput, signedOutputs, signedCommitments, signerFilling};
+ghost use Rattle.views.specs.Input.{challengeInput, signedOutputs, signedCommitments, signerFilling};
 ghost use Rattle.room.specs.Room.{commitmentsAt, withRound};
 ghost use Rattle.signer.specs.Played.{saidBy, PlayedAs, tapesIn, Ready};
 ghost use Rattle.signer.specs.Sign.{Signed, lengthChecks, shownAt, signatureFor};
@@ -94,7 +93,7 @@ fn refused(
 
 // The block of party j.
 fn block_of(s: Shares, j: usize) -> Block
-    ensures { λ r. ⌜ ((k : Party) → j ≡ number k → blockBits r ≡ share s k) ⌝ }
+    ensures { λ r. ⌜ ((k : Party) → j ≡ partyNumber k → blockBits r ≡ shareIn s k) ⌝ }
 {
     if j == 0 {
         return s.a;
@@ -107,7 +106,7 @@ fn block_of(s: Shares, j: usize) -> Block
 
 // The transcript of party j, at the start of an array.
 fn said_of(x: Played, j: usize) -> [u8; 143]
-    ensures { λ r. ⌜ ((k : Party) → j ≡ number k → r ≡ saidBy x k) ⌝ }
+    ensures { λ r. ⌜ ((k : Party) → j ≡ partyNumber k → r ≡ saidBy x k) ⌝ }
 {
     if j == 0 {
         return x.said0;
@@ -121,7 +120,7 @@ fn said_of(x: Played, j: usize) -> [u8; 143]
 // The tape of party j in round t from the lent seeds, at the start of an array.
 fn seeded_tape(p: Set, seeds: &[u8], t: usize, j: usize) -> [u8; 175]
     requires { ⌜ IsSet p × (length (now seeds) ≡ seedsLength p) × (t < p .t) × (j < 3) ⌝ }
-    ensures { λ r. ⌜ ((keys layers constants : Bytes) (k : Party) → j ≡ number k
+    ensures { λ r. ⌜ ((keys layers constants : Bytes) (k : Party) → j ≡ partyNumber k
         → take (tapeLength (cipherOf p keys layers constants) k) r
         ≡ tapes p (cipherOf p keys layers constants) (saltAt p (now (seeds .entry))) t (seedAt p (now (seeds .entry)) t) k) ⌝ }
 {
@@ -137,7 +136,7 @@ fn in_bytes(p: Set, inputs: Shares, v: View) -> Played
     requires { ⌜ IsSet p × ((j : Party) → Rowed (3 * p .s) (p .r) (said v j)) ⌝ }
     ensures { λ r. ⌜
         (r .inputs ≡ inputs) × (r .outputs ≡ v .out)
-        × ((j : Party) (u : Rows) → Written (3 * p .s) (p .r) u (said v j) → take (transcript p) (saidBy r j) ≡ bytesOf (3 * p .s * p .r) (flat (3 * p .s) u))
+        × ((j : Party) (u : Rows) → Written (3 * p .s) (p .r) u (said v j) → take (transcriptLength p) (saidBy r j) ≡ bytesOf (3 * p .s * p .r) (flat (3 * p .s) u))
         ⌝ }
 {
     let outputs = v.out;
@@ -232,7 +231,7 @@ fn commit_party(p: Set, seed: &[u8], share: Block, said: [u8; 143], result: Bloc
     requires { ⌜ IsSet p ⌝ }
     ensures { λ r. ⌜
         take (p .digest) r
-        ≡ commitment p (now (seed .entry)) (bytesOf (p .n) (blockBits share)) (take (transcript p) said) (bytesOf (p .n) (blockBits result))
+        ≡ commitment p (now (seed .entry)) (bytesOf (p .n) (blockBits share)) (take (transcriptLength p) said) (bytesOf (p .n) (blockBits result))
         ⌝ }
 {
     let w = p.width();
@@ -245,7 +244,7 @@ fn commit_party(p: Set, seed: &[u8], share: Block, said: [u8; 143], result: Bloc
 // The commitment of party j in round t, at the start of an array.
 fn commitment_of(p: Set, seeds: &[u8], t: usize, j: usize, x: Played) -> [u8; 64]
     requires { ⌜ IsSet p × (length (now seeds) ≡ seedsLength p) × (t < p .t) × (j < 3) ⌝ }
-    ensures { λ r. ⌜ ((keys layers constants secret block : Bytes) (k : Party) → j ≡ number k
+    ensures { λ r. ⌜ ((keys layers constants secret block : Bytes) (k : Party) → j ≡ partyNumber k
         → PlayedAs (cipherOf p keys layers constants) secret
         (tapes p (cipherOf p keys layers constants) (saltAt p (now (seeds .entry))) t (seedAt p (now (seeds .entry)) t)) block x
         → take (p .digest) r
@@ -375,7 +374,7 @@ fn fill(
 fn shown_share(p: Set, e: u8, x: Shares) -> [u8; 32]
     requires { ⌜ IsSet p ⌝ }
     ensures { λ r. ⌜
-        take (w p) r ≡ cond (eqb e 0) (replicate (w p) 0) (bytesOf (p .n) (share x party2))
+        take (w p) r ≡ cond (eqb e 0) (replicate (w p) 0) (bytesOf (p .n) (shareIn x party2))
         ⌝ }
 {
     if e == 0 {
@@ -399,12 +398,12 @@ fn write_parts(
 ) -> usize
     requires { ⌜
         IsSet p × (length (now seeds) ≡ seedsLength p) × (t < p .t) × (e < 3)
-        × (at + sizes (round p e) ≤ length (now output))
+        × (at + sizes (roundFields p e) ≤ length (now output))
         ⌝ }
     ensures { λ n. ⌜
-        (n ≡ at + sizes (round p e))
+        (n ≡ at + sizes (roundFields p e))
         × (now (output .exit) ≡ put (now (output .entry)) at
-        (roundOf p e (showing (take (p .digest) commitment) (take (transcript p) said)
+        (roundOf p e (showing (take (p .digest) commitment) (take (transcriptLength p) said)
         (seedAt p (now (seeds .entry)) t (partyOf e)) (seedAt p (now (seeds .entry)) t (next (partyOf e))) (take (w p) share))))
         ⌝ }
 {
@@ -439,10 +438,10 @@ fn write_shown(
 ) -> usize
     requires { ⌜
         IsSet p × (length (now seeds) ≡ seedsLength p) × (t < p .t) × (e < 3)
-        × (at + sizes (round p e) ≤ length (now output))
+        × (at + sizes (roundFields p e) ≤ length (now output))
         ⌝ }
     ensures { λ n. ⌜
-        (n ≡ at + sizes (round p e))
+        (n ≡ at + sizes (roundFields p e))
         × ((keys layers constants secret block : Bytes)
         → PlayedAs (cipherOf p keys layers constants) secret
         (tapes p (cipherOf p keys layers constants) (saltAt p (now (seeds .entry))) t (seedAt p (now (seeds .entry)) t)) block x
@@ -476,10 +475,10 @@ fn write_round(
 ) -> usize
     requires { ⌜
         Ready p (now keys) (now layers) (now constants) (now secret) (now public) (now seeds) (now states) × (t < p .t) × (e < 3)
-        × (at + sizes (round p e) ≤ length (now output))
+        × (at + sizes (roundFields p e) ≤ length (now output))
         ⌝ }
     ensures { λ n. ⌜
-        (n ≡ at + sizes (round p e))
+        (n ≡ at + sizes (roundFields p e))
         × (now (output .exit) ≡ put (now (output .entry)) at
         (roundOf p e (shownAt p (cipherOf p (now (keys .entry)) (now (layers .entry)) (now (constants .entry))) (now (secret .entry)) (now (public .entry)) (now (seeds .entry)) t e)))
         ⌝ }
@@ -506,7 +505,7 @@ fn write_round(
 fn write_front(p: Set, seeds: &[u8], values: &[u8], output: &mut [u8])
     requires { ⌜
         IsSet p × (length (now seeds) ≡ seedsLength p) × (length (now values) ≡ p .t) × AreValues (now values)
-        × (header p + salt ≤ length (now output))
+        × (headerLength p + saltLength ≤ length (now output))
         ⌝ }
     ensures { λ _. ⌜
         now (output .exit) ≡ over (headerOf p (now (values .entry)) ++ saltAt p (now (seeds .entry))) (now (output .entry))
@@ -655,7 +654,7 @@ fn sign_ready(
     ensures { λ r. ⌜ ((set : ℕ)
         → Finished p
         (record {
-          set = set;
+          setNumber = set;
           keys = now (keys .entry);
           layers = now (layers .entry);
           constants = now (constants .entry);
@@ -723,7 +722,7 @@ fn sign_known(
     ensures { λ r. ⌜ ((set : ℕ) → numbered set ≡ Known p
         → Signed
         (record {
-          set = set;
+          setNumber = set;
           keys = now (keys .entry);
           layers = now (layers .entry);
           constants = now (constants .entry);
@@ -791,7 +790,7 @@ pub fn sign(
     ensures { λ r. ⌜
         Signed
         (record {
-          set = set;
+          setNumber = set;
           keys = now (keys .entry);
           layers = now (layers .entry);
           constants = now (constants .entry);

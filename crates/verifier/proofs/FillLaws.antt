@@ -13,11 +13,12 @@ use Rattle.slices.proofs.EqualLaws.{equal-more, equal-all}
 use Rattle.bits.specs.Bytes.{width}
 use Rattle.sets.specs.declared.Set.{Set}
 use Rattle.sets.specs.Sets.{IsSet}
-use Rattle.sets.specs.Lengths.{w, salt, header, roomLength}
+use Rattle.sets.specs.Lengths.{w, saltLength, headerLength, roomLength}
 use Rattle.answers.specs.declared.Refusal.the-variants.{Fine}
 use Rattle.answers.specs.Answers.{first}
 use Rattle.circuit.specs.Lowmc.{Cipher}
 use Rattle.circuit.specs.Round.{Party, party0}
+use Rattle.lowmc.specs.Encrypted.{plaintext, ciphertext}
 use Rattle.hashing.specs.Hashing.{commitment}
 use Rattle.shape.specs.Header.{valueAt, values}
 use Rattle.shape.specs.Form.{Shown, form, valuesIn, saltIn, shownIn}
@@ -32,7 +33,7 @@ use Rattle.parts.specs.declared.Parts.{Parts}
 use Rattle.parts.specs.Places.{partsAt, Located, showing}
 use Rattle.views.specs.Parties.{partyOf, three}
 use Rattle.views.specs.Opened.{opening, recomputedTranscript, recomputedOutputs, recomputedCommitments}
-use Rattle.views.specs.Input.{plaintext, ciphertext, openedOutputs, openedCommitments, filling}
+use Rattle.views.specs.Input.{openedOutputs, openedCommitments, filling}
 use Rattle.room.specs.Room.{withRound}
 use Rattle.room.proofs.RoomLaws.{sizes}
 use Rattle.room.proofs.LengthLaws.{length-three, recomputed-output, recomputed-commitment}
@@ -84,7 +85,7 @@ module _ {p : Set} (i : IsSet p) (s : Bytes) (t : ℕ) (l : t < p .t) (c : first
           )
       go false e = omega (arith, share-long (eqb-false (r .value) 0 e), sizes i .width)
 
-  pub salt-end : header p + salt ≤ length s
+  pub salt-end : headerLength p + saltLength ≤ length s
   salt-end = sound p s c .long
 
 -- ---- what is shown, by its parts
@@ -138,12 +139,12 @@ module _ {p : Set} (i : IsSet p) (C : Cipher) (public s : Bytes) (t : ℕ) (l : 
   opened-first = ap partyOf (g .value ∙ ap (λ (vs : Bytes). getD vs t 0) (sym (values-of-form p s (sound p s c .exact))))
 
   -- the salt, by the code's places
-  salt-as : (from end : ℕ) → from ≡ header p → end ≡ from + salt → part s from (end - from) ≡ saltIn p (form p s)
+  salt-as : (from end : ℕ) → from ≡ headerLength p → end ≡ from + saltLength → part s from (end - from) ≡ saltIn p (form p s)
   salt-as from end e f =
-      let n : end - from ≡ salt = omega arith in
+      let n : end - from ≡ saltLength = omega arith in
       ap₂ (λ (a k : ℕ). part s a k) e n ∙ sym (salt-in-place p s (sound p s c .exact))
 
-  module _ (from end : ℕ) (e : from ≡ header p) (f : end ≡ from + salt) where
+  module _ (from end : ℕ) (e : from ≡ headerLength p) (f : end ≡ from + saltLength) where
     pub outputs-as : recomputedOutputs p C (part s from (end - from)) t (partyOf (r .value)) inPlace (plaintext p public) (ciphertext p public)
         ≡ openedOutputs p C public (form p s) t
     outputs-as =
@@ -186,7 +187,7 @@ pub agree-all : (p : Set) (found s : Bytes) (d k : ℕ) → p .t ≤ k → lengt
 agree-all p found s d k h l q = equal-all found (values p s) d k (omega arith) (omega (arith, length-values p s)) q
 
 -- a header's places
-pub value-within : (p : Set) (k n : ℕ) → k < p .t → header p ≤ n → k < 4 * n
+pub value-within : (p : Set) (k n : ℕ) → k < p .t → headerLength p ≤ n → k < 4 * n
 unfolding width
 value-within p k n h l = omega arith
 

@@ -16,17 +16,17 @@ use Rattle.sets.specs.Sets.{IsSet}
 use Rattle.sets.specs.Lengths.{w, publicLength}
 use Rattle.circuit.specs.Lowmc.{Cipher}
 use Rattle.circuit.specs.Round.{Party, party0, party1, party2, next, transcript₁, output₃}
-use Rattle.circuit.specs.Tapes.{number, tapeShare}
+use Rattle.circuit.specs.Tapes.{partyNumber, tapeShare}
 use Rattle.lowmc.specs.Lent.{cipherOf}
+use Rattle.lowmc.specs.Encrypted.{ciphertext, plaintext}
 use Rattle.round.specs.declared.Again.{Again}
-use Rattle.round.specs.Engine.{Recomputed, Written}
+use Rattle.round.specs.Engine.{RecomputedAs, Written}
 use Rattle.round.specs.Inputs.{openingOf}
 use Rattle.hashing.specs.Hashing.{commitment}
 use Rattle.shape.specs.Form.{Shown}
 use Rattle.views.specs.Parties.{partyOf, fromParty, three}
 use Rattle.views.specs.Opened.{openedShare, tape₁, tape₂, opening, recomputedTranscript, recomputedOutputs, recomputedCommitments}
 use Rattle.views.proofs.PartiesLaws.{at-first, at-second}
-use Rattle.views.specs.Input.{ciphertext, plaintext}
 use Rattle.room.specs.Room.{sharesAt, commitmentsAt, withRound}
 use Rattle.room.proofs.RoomLaws.{sizes, rest-as}
 use Rattle.verifier.specs.declared.Opened.{Opened}
@@ -35,7 +35,7 @@ use Rattle.verifier.specs.Opened.{OpenedAs}
 module _ (p : Set) (j : ℕ) (tape given r : Bytes) where
   -- party 2's share as it is given
   pub share-given : j ≡ 2 → (z : Bytes) → length given ≡ w p → r ≡ over given z
-      → (keys layers constants : Bytes) (k : Party) → j ≡ number k → take (w p) r ≡ openedShare (cipherOf p keys layers constants) k tape given
+      → (keys layers constants : Bytes) (k : Party) → j ≡ partyNumber k → take (w p) r ≡ openedShare (cipherOf p keys layers constants) k tape given
   unfolding over
   share-given h z l e keys layers constants party0 q = absurd (omega arith)
   share-given h z l e keys layers constants party1 q = absurd (omega arith)
@@ -43,7 +43,7 @@ module _ (p : Set) (j : ℕ) (tape given r : Bytes) where
 
   -- another's from its tape
   pub share-taken : (j ≡ 2 → ⊥) → (x : Bits) → x ≡ upTo (p .n) (bitsOf tape) → take (w p) r ≡ bytesOf (p .n) x
-      → (keys layers constants : Bytes) (k : Party) → j ≡ number k → take (w p) r ≡ openedShare (cipherOf p keys layers constants) k tape given
+      → (keys layers constants : Bytes) (k : Party) → j ≡ partyNumber k → take (w p) r ≡ openedShare (cipherOf p keys layers constants) k tape given
   unfolding tapeShare
   share-taken h x e l keys layers constants party0 q = l ∙ (ap (bytesOf (p .n)) e ∙ bytesOf-cong (p .n) _ _ (λ i b. upTo-in (p .n) _ i b))
   share-taken h x e l keys layers constants party1 q = l ∙ (ap (bytesOf (p .n)) e ∙ bytesOf-cong (p .n) _ _ (λ i b. upTo-in (p .n) _ i b))
@@ -52,7 +52,7 @@ module _ (p : Set) (j : ℕ) (tape given r : Bytes) where
 -- recomputed from shares whose bits are at hand
 pub recomputed-from : (C : Cipher) (block block′ : Bits) (e : Party) (x x′ y y′ : Bits) (tape1 tape2 given : Bytes) (v : Again)
     → block ≡ block′ → x ≡ x′ → y ≡ y′
-    → Recomputed C block e (openingOf C e x y tape1 tape2 given) v → Recomputed C block′ e (openingOf C e x′ y′ tape1 tape2 given) v
+    → RecomputedAs C block e (openingOf C e x y tape1 tape2 given) v → RecomputedAs C block′ e (openingOf C e x′ y′ tape1 tape2 given) v
 recomputed-from C block block′ e x x′ y y′ tape1 tape2 given v eb ex ey h = rw (← eb, ← ex, ← ey) h
 
 -- opened over tapes that are at hand

@@ -6,7 +6,7 @@ use native.Mathlib.Omega.{arith}
 use lib.ListN.{length, take}
 use Rattle.slices.specs.Slices.{Bytes, part, equal}
 use Rattle.sets.specs.declared.Set.{Set}
-use Rattle.sets.specs.Lengths.{salt, header}
+use Rattle.sets.specs.Lengths.{saltLength, headerLength}
 use Rattle.answers.specs.declared.Refusal.{Refusal}
 use Rattle.answers.specs.declared.Refusal.the-variants.{Fine, Blocks, Differs}
 use Rattle.answers.specs.Answers.{first}
@@ -41,10 +41,10 @@ module _ (p : Set) (b : Bytes) (limit : ℕ) (es : Bytes) where
 -- ---- the verdict on values that were filled in
 
 -- the first block of the challenge, by the code's places of the salt
-pub block-as : (p : Set) (filled s public message : Bytes) (from end : ℕ) → from ≡ header p → end ≡ from + salt
-    → h p 1 (challengeInput filled (part s from (end - from)) public message) ≡ h p 1 (challengeInput filled (part s (header p) salt) public message)
+pub block-as : (p : Set) (filled s public message : Bytes) (from end : ℕ) → from ≡ headerLength p → end ≡ from + saltLength
+    → h p 1 (challengeInput filled (part s from (end - from)) public message) ≡ h p 1 (challengeInput filled (part s (headerLength p) saltLength) public message)
 block-as p filled s public message from end e f =
-    let n : end - from ≡ salt = omega arith in
+    let n : end - from ≡ saltLength = omega arith in
     ap₂ (λ (a k : ℕ). h p 1 (challengeInput filled (part s a k) public message)) e n
 
 module _ {p : Set} {b b′ : Bytes} {limit : ℕ} {before after : Bytes} {r : Filled} (es : Bytes) (q : b ≡ b′) (f : Fills p b limit before r after) where

@@ -9,7 +9,7 @@ use Rattle.slices.specs.Slices.{Bytes, part, cleared, equal}
 use Rattle.sets.specs.declared.Set.{Set}
 use Rattle.sets.specs.declared.Chosen.the-variants.{Known, Unknown}
 use Rattle.sets.specs.Sets.{IsSet, numbered}
-use Rattle.sets.specs.Lengths.{salt, header, publicLength, roomLength}
+use Rattle.sets.specs.Lengths.{saltLength, headerLength, publicLength, roomLength}
 use Rattle.answers.specs.declared.Refusal.{Refusal}
 use Rattle.answers.specs.declared.Refusal.the-variants.{Fine, NoSet, Blocks, Differs}
 use Rattle.answers.specs.Answers.{Check, first, fine, answer}
@@ -32,7 +32,7 @@ use Rattle.verifier.specs.Verify.{Given, Verified, lengthChecks, verdict
 -- the verdict on the room as it was filled, in the definitions' words
 pub verdict-as : (p : Set) (keys layers constants public message s filled : Bytes) (limit : ℕ) → first (readChecks p s) ≡ Fine
     → filled ≡ verifierFilling p (cipherOf p keys layers constants) public (form p s)
-    → first (verdictChecks p (h p 1 (challengeInput filled (part s (header p) salt) public message)) limit (values p s))
+    → first (verdictChecks p (h p 1 (challengeInput filled (part s (headerLength p) saltLength) public message)) limit (values p s))
     ≡ first (verdictChecks p (firstBlock p keys layers constants public message (form p s)) limit (valuesIn p (form p s)))
 unfolding firstBlock
 verdict-as p keys layers constants public message s filled limit c e =
@@ -82,11 +82,11 @@ unfolding verdictChecks first
 cleared-by p b limit es v j = ap clears j ∙ clears-verdict (tooFew p b limit) (not (equal (firstValues p b limit) es))
 
 module _ (g : Given) (a : ℕ) where
-  pub no-set : numbered (g .set) ≡ Unknown → a ≡ answer NoSet 0 → Verified g a (g .room)
+  pub no-set : numbered (g .setNumber) ≡ Unknown → a ≡ answer NoSet 0 → Verified g a (g .room)
   unfolding refusalFor roomAfter
   no-set e q = record { answered = rw e q; left = rw e }
 
-  module _ {p : Set} (e : numbered (g .set) ≡ Known p) where
+  module _ {p : Set} (e : numbered (g .setNumber) ≡ Known p) where
     -- a check holds that keeps the room
     kept : (r : Refusal) → first (checks p g) ≡ r → clears r ≡ false → a ≡ answer r 0 → Verified g a (g .room)
     unfolding refusalFor roomAfter

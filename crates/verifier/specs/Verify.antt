@@ -24,7 +24,7 @@ use Rattle.room.specs.Room.{roomAfter}
 
 -- what a host hands in
 pub record Given : Type 0 where
-  pub set : ℕ
+  pub setNumber : ℕ
   pub keys : Bytes
   pub layers : Bytes
   pub constants : Bytes
@@ -36,47 +36,47 @@ pub record Given : Type 0 where
 
 -- 2 to 6, of the lengths
 unfoldable pub lengthChecks : Set → (keys layers constants public message limit room : ℕ) → List Check
-lengthChecks p keys layers constants public message limit room =
-    when (tablesOther p keys layers constants) Table
-    ∷ when (other (publicLength p) public) Key
+lengthChecks set keys layers constants public message limit room =
+    when (tablesOther set keys layers constants) Table
+    ∷ when (other (publicLength set) public) Key
     ∷ when (messageOut message) Message
     ∷ when (limitOut limit) Limit
-    ∷ when (tooShort (roomLength p) room) Room
+    ∷ when (tooShort (roomLength set) room) Room
     ∷ []
 
 -- 8, then 12, for the first block b of the recomputed challenge and the signature's values es
 unfoldable pub verdictChecks : Set → (b : Bytes) (limit : ℕ) (es : Bytes) → List Check
-verdictChecks p b limit es =
-    when (tooFew p b limit) Blocks
-    ∷ when (not (equal (firstValues p b limit) es)) Differs
+verdictChecks set b limit es =
+    when (tooFew set b limit) Blocks
+    ∷ when (not (equal (firstValues set b limit) es)) Differs
     ∷ []
 
 -- the first block of the challenge as it is recomputed from a signature's unpacked form x: H_1 of its input
 unfoldable pub firstBlock : Set → (keys layers constants public message x : Bytes) → Bytes
-firstBlock p keys layers constants public message x =
-    h p 1 (challengeInput (verifierFilling p (cipherOf p keys layers constants) public x) (saltIn p x) public message)
+firstBlock set keys layers constants public message x =
+    h set 1 (challengeInput (verifierFilling set (cipherOf set keys layers constants) public x) (saltIn set x) public message)
 
 -- 2 to 6, then 9, 10, 9, 11, then 8, 12
 unfoldable pub checks : Set → Given → List Check
-checks p g =
-    let x = form p (g .signature) in
-    lengthChecks p (length (g .keys)) (length (g .layers)) (length (g .constants)) (length (g .public)) (length (g .message)) (g .limit)
+checks set g =
+    let x = form set (g .signature) in
+    lengthChecks set (length (g .keys)) (length (g .layers)) (length (g .constants)) (length (g .public)) (length (g .message)) (g .limit)
     (length (g .room))
-    ++ (readChecks p (g .signature)
-    ++ verdictChecks p (firstBlock p (g .keys) (g .layers) (g .constants) (g .public) (g .message) x) (g .limit) (valuesIn p x))
+    ++ (readChecks set (g .signature)
+    ++ verdictChecks set (firstBlock set (g .keys) (g .layers) (g .constants) (g .public) (g .message) x) (g .limit) (valuesIn set x))
 
 -- 1: the set is not 1, 2 or 3; else the first check that holds
 unfoldable pub refusalFor : Chosen → Given → Refusal
 refusalFor Unknown g = NoSet
-refusalFor (Known p) g = first (checks p g)
+refusalFor (Known set) g = first (checks set g)
 
 abbrev pub refusal : Given → Refusal
-refusal g = refusalFor (numbered (g .set)) g
+refusal g = refusalFor (numbered (g .setNumber)) g
 
 -- the promise: the answer, bytes written being 0 in verifying, and what is left in the room
-pub record Verified (g : Given) (number : ℕ) (room : Bytes) : Type 0 where
-  pub answered : number ≡ answer (refusal g) 0
-  pub left : room ≡ roomAfter (numbered (g .set)) (refusal g) (g .room)
+pub record Verified (g : Given) (back : ℕ) (room : Bytes) : Type 0 where
+  pub answered : back ≡ answer (refusal g) 0
+  pub left : room ≡ roomAfter (numbered (g .setNumber)) (refusal g) (g .room)
 
 -- two outcomes that the promise allows are equal
 unfoldable pub SameVerified : Type 0

@@ -9,12 +9,13 @@ ghost use Rattle.bits.specs.Words.{blockBits};
 ghost use Rattle.bits.specs.Rows.{Rows, flat, Rowed};
 ghost use Rattle.sets.specs.declared.Chosen.the-variants.{Known};
 ghost use Rattle.sets.specs.Sets.{IsSet, numbered};
-ghost use Rattle.sets.specs.Lengths.{w, salt, header, publicLength, roomLength};
+ghost use Rattle.sets.specs.Lengths.{w, saltLength, headerLength, publicLength, roomLength};
 ghost use Rattle.answers.specs.Answers.{first};
 ghost use Rattle.circuit.specs.Round.{Party, next};
-ghost use Rattle.circuit.specs.Tapes.{number};
+ghost use Rattle.circuit.specs.Tapes.{partyNumber};
 ghost use Rattle.lowmc.specs.Lent.{cipherOf, Lent};
-ghost use Rattle.round.specs.Engine.{Recomputed, Written};
+ghost use Rattle.lowmc.specs.Encrypted.{ciphertext, plaintext};
+ghost use Rattle.round.specs.Engine.{RecomputedAs, Written};
 ghost use Rattle.round.specs.Inputs.{openingOf};
 ghost use Rattle.hashing.specs.Hashing.{h, commitment};
 ghost use Rattle.shape.specs.Header.{values};
@@ -24,7 +25,7 @@ ghost use Rattle.parts.specs.Places.{Located, showing};
 ghost use Rattle.views.specs.Parties.{partyOf, fromParty, three};
 ghost use Rattle.views.specs.Signed.{tapeOf};
 ghost use Rattle.views.specs.Opened.{openedShare, recomputedOutputs, recomputedCommitments};
-ghost use Rattle.views.specs.Input.{ciphertext, plaintext, challengeInput, openedOutputs, openedCommitments, verifierFilling};
+ghost use Rattle.views.specs.Input.{challengeInput, openedOutputs, openedCommitments, verifierFilling};
 ghost use Rattle.room.specs.Room.{sharesAt, commitmentsAt, withRound};
 ghost use Rattle.verifier.specs.Opened.{OpenedAs};
 ghost use Rattle.verifier.specs.Verify.{Verified, lengthChecks, verdictChecks, firstBlock};
@@ -46,7 +47,7 @@ pub struct Opened {
 // The input share of opened party j, at the start of an array: of parties 0 and 1 from the tape, of party 2 as it is given.
 fn opened_share(p: Set, j: usize, tape: &[u8], given: &[u8]) -> [u8; 32]
     requires { ⌜ IsSet p × (w p ≤ length (now tape)) × (length (now given) ≤ 32) × (j ≡ 2 → length (now given) ≡ w p) ⌝ }
-    ensures { λ r. ⌜ ((keys layers constants : Bytes) (k : Party) → j ≡ number k
+    ensures { λ r. ⌜ ((keys layers constants : Bytes) (k : Party) → j ≡ partyNumber k
         → take (w p) r ≡ openedShare (cipherOf p keys layers constants) k (now (tape .entry)) (now (given .entry))) ⌝ }
 {
     if j == 2 {
@@ -75,8 +76,8 @@ fn recompute(
         Lent p (now keys) (now layers) (now constants) × (e < 3)
         × (length (now block) ≤ 32) × (length (now share1) ≤ 32) × (length (now share2) ≤ 32)
         ⌝ }
-    ensures { λ r. ⌜ ((j : Party) → e ≡ number j
-        → Recomputed (cipherOf p (now (keys .entry)) (now (layers .entry)) (now (constants .entry))) (bitsOf (now (block .entry))) j
+    ensures { λ r. ⌜ ((j : Party) → e ≡ partyNumber j
+        → RecomputedAs (cipherOf p (now (keys .entry)) (now (layers .entry)) (now (constants .entry))) (bitsOf (now (block .entry))) j
         (openingOf (cipherOf p (now (keys .entry)) (now (layers .entry)) (now (constants .entry))) j (bitsOf (now (share1 .entry))) (bitsOf (now (share2 .entry)))
         (now (tape1 .entry)) (now (tape2 .entry)) (now (transcript .entry))) r) ⌝ }
 {
@@ -116,7 +117,7 @@ fn open_tapes(
         × (w p ≤ length (now tape1)) × (w p ≤ length (now tape2))
         × (length (now share) ≤ 32) × ((e ≡ 0 → ⊥) → length (now share) ≡ w p)
         ⌝ }
-    ensures { λ r. ⌜ ((j : Party) → e ≡ number j
+    ensures { λ r. ⌜ ((j : Party) → e ≡ partyNumber j
         → OpenedAs (cipherOf p (now (keys .entry)) (now (layers .entry)) (now (constants .entry))) j
         (now (tape1 .entry)) (now (tape2 .entry)) (now (share .entry)) (now (transcript .entry)) (now (block .entry)) r) ⌝ }
 {
@@ -162,7 +163,7 @@ fn open(
         Lent p (now keys) (now layers) (now constants) × (t < 65536) × (e < 3) × (length (now block) ≤ 32)
         × (length (now share) ≤ 32) × ((e ≡ 0 → ⊥) → length (now share) ≡ w p)
         ⌝ }
-    ensures { λ r. ⌜ ((j : Party) → e ≡ number j
+    ensures { λ r. ⌜ ((j : Party) → e ≡ partyNumber j
         → OpenedAs (cipherOf p (now (keys .entry)) (now (layers .entry)) (now (constants .entry))) j
         (tapeOf p (cipherOf p (now (keys .entry)) (now (layers .entry)) (now (constants .entry))) (now (salt .entry)) t j (now (seed1 .entry)))
         (tapeOf p (cipherOf p (now (keys .entry)) (now (layers .entry)) (now (constants .entry))) (now (salt .entry)) t (next j) (now (seed2 .entry)))
@@ -406,7 +407,7 @@ fn fill(
 
 // The values are those of the signature's header.
 fn agrees(p: Set, found: &[u8], signature: &[u8]) -> bool
-    requires { ⌜ IsSet p × (length (now found) ≡ p .t) × (header p ≤ length (now signature)) ⌝ }
+    requires { ⌜ IsSet p × (length (now found) ≡ p .t) × (headerLength p ≤ length (now signature)) ⌝ }
     ensures { λ b. ⌜ b ≡ equal (now (found .entry)) (values p (now (signature .entry))) ⌝ }
 {
     let n = p.t;
@@ -428,12 +429,12 @@ fn judge(
     limit: u64,
     signature: &[u8],
 ) -> Refusal
-    requires { ⌜ IsSet p × (header p + salt ≤ length (now signature)) ⌝ }
+    requires { ⌜ IsSet p × (headerLength p + saltLength ≤ length (now signature)) ⌝ }
     ensures { λ r. ⌜
         r
         ≡ first
         (verdictChecks p
-        (h p 1 (challengeInput (now (filled .entry)) (part (now (signature .entry)) (header p) salt) (now (public .entry)) (now (message .entry))))
+        (h p 1 (challengeInput (now (filled .entry)) (part (now (signature .entry)) (headerLength p) saltLength) (now (public .entry)) (now (message .entry))))
         limit (values p (now (signature .entry))))
         ⌝ }
 {
@@ -541,7 +542,7 @@ fn verify_known(
     ensures { λ r. ⌜ ((set : ℕ) → numbered set ≡ Known p
         → Verified
         (record {
-          set = set;
+          setNumber = set;
           keys = now (keys .entry);
           layers = now (layers .entry);
           constants = now (constants .entry);
@@ -599,7 +600,7 @@ pub fn verify(
     ensures { λ r. ⌜
         Verified
         (record {
-          set = set;
+          setNumber = set;
           keys = now (keys .entry);
           layers = now (layers .entry);
           constants = now (constants .entry);

@@ -3,7 +3,7 @@ use mathlib.Core.Path.{_≡_, refl}
 use Prim.Native.Nat.{ℕ, zero, suc, _<_}
 use native.Mathlib.Omega.{arith}
 use Rattle.circuit.specs.Round.{Party, party0, party1, party2, next, third}
-use Rattle.circuit.specs.Tapes.{number}
+use Rattle.circuit.specs.Tapes.{partyNumber}
 use Rattle.views.specs.Parties.{partyOf, fromParty}
 
 module _ {A : Type 0} where
@@ -33,7 +33,7 @@ module _ {A : Type 0} where
   all-three P party2 a b c = elim [ party0 ↦ b | party1 ↦ c | party2 ↦ a ]
 
 -- a challenge value is the number of its party
-pub number-of : (e : ℕ) → e < 3 → e ≡ number (partyOf e)
+pub number-of : (e : ℕ) → e < 3 → e ≡ partyNumber (partyOf e)
 number-of zero h = refl
 number-of (suc zero) h = refl
 number-of (suc (suc zero)) h = refl

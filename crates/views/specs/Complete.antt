@@ -10,14 +10,14 @@ use Rattle.views.specs.Signed.{tapes, outputs, commitments, shown}
 use Rattle.views.specs.Opened.{recomputedOutputs, recomputedCommitments}
 
 -- the verifier's output shares and commitments for challenge e are the signer's
-pub record Regained (p : Set) (C : Cipher) (salt : Bytes) (t : ℕ) (seeds : Party → Bytes) (sk block cipher : Bytes) (e : Party) : Type 0 where
+pub record Regained (set : Set) (L : Cipher) (salt : Bytes) (t : ℕ) (seeds : Party → Bytes) (sk p C : Bytes) (e : Party) : Type 0 where
   pub outputs : (j : Party)
-      → recomputedOutputs p C salt t e (shown p C salt t seeds sk block e) block cipher j ≡ outputs C sk (tapes p C salt t seeds) block j
+      → recomputedOutputs set L salt t e (shown set L salt t seeds sk p e) p C j ≡ outputs L sk (tapes set L salt t seeds) p j
   pub commitments : (j : Party)
-      → recomputedCommitments p C salt t e (shown p C salt t seeds sk block e) block cipher j ≡ commitments p C salt t seeds sk block j
+      → recomputedCommitments set L salt t e (shown set L salt t seeds sk p e) p C j ≡ commitments set L salt t seeds sk p j
 
 -- where LowMC of p under sk is C, for every challenge
 unfoldable pub RoundComplete : Type 0
 RoundComplete =
-    (p : Set) (C : Cipher) (salt : Bytes) (t : ℕ) (seeds : Party → Bytes) (sk block cipher : Bytes)
-    → bytesOf (C .n) (encryption C (bitsOf sk) (bitsOf block)) ≡ cipher → (e : Party) → Regained p C salt t seeds sk block cipher e
+    (set : Set) (L : Cipher) (salt : Bytes) (t : ℕ) (seeds : Party → Bytes) (sk p C : Bytes)
+    → bytesOf (L .n) (encryption L (bitsOf sk) (bitsOf p)) ≡ C → (e : Party) → Regained set L salt t seeds sk p C e

@@ -13,7 +13,7 @@ use Rattle.sets.proofs.Each.{each, most}
 use Rattle.hashing.specs.Hashing.{h}
 use Rattle.hashing.proofs.HashingLaws.{digest-fits}
 use Rattle.challenge.specs.Pairs.{valuesTo}
-use Rattle.challenge.specs.Blocks.{chain, valuesIn}
+use Rattle.challenge.specs.Blocks.{chain, streamValues}
 use Rattle.challenge.proofs.BlocksLaws.{chain-first, chain-next, in-none, in-block}
 use Rattle.challenge.proofs.FillingLaws.{Filling, Ended, filling-none, filling-room, filling-start, filling-skip, filling-store, ended-all, ended-at, ended-size, ended-short, ended-full}
 use borrow.Author.Needs.{needs}
@@ -31,7 +31,7 @@ abbrev μ-loop : tie.MeasureT-loop
 -- k blocks are read, and b holds block k
 abbrev Inv-reading : tie.InvT-reading
 Inv-reading p limit out₀ digest t pairs b₀ got₀ k₀ out b got k =
-    (k ≤ limit) × (length b ≡ 64) × (take digest b ≡ chain p (take digest b₀) k) × Filling t (valuesIn p (take digest b₀) k) got out₀ out
+    (k ≤ limit) × (length b ≡ 64) × (take digest b ≡ chain p (take digest b₀) k) × Filling t (streamValues p (take digest b₀) k) got out₀ out
 
 abbrev μ-reading : tie.MeasureT-reading
 μ-reading p limit out₀ digest t pairs b₀ got₀ k₀ out b got k = limit - k
@@ -42,12 +42,12 @@ fits c = omega (arith, c .reading .inv .1, digest-fits (c .before .before .pre .
 
 -- what is written at the inner loop
 written : (c : tie.At-loop Inv-loop μ-loop Inv-reading μ-reading)
-    → Filling (c .before .before .before .before .args .p .t) (valuesIn (c .before .before .before .before .args .p) (take (c .before .before .before .before .args .p .digest) (c .before .before .before .before .args .first)) (c .before .before .reading .k) ++ valuesTo (c .loop .j) (c .before .before .reading .b)) (c .loop .got) (c .before .before .before .before .args .out .now) (c .loop .out)
+    → Filling (c .before .before .before .before .args .p .t) (streamValues (c .before .before .before .before .args .p) (take (c .before .before .before .before .args .p .digest) (c .before .before .before .before .args .first)) (c .before .before .reading .k) ++ valuesTo (c .loop .j) (c .before .before .reading .b)) (c .loop .got) (c .before .before .before .before .args .out .now) (c .loop .out)
 written c = c .loop .inv .1 _ _ (c .before .before .reading .inv .3)
 
 -- how the loops are left
 ended : (c : tie.Left-reading Inv-loop μ-loop Inv-reading μ-reading)
-    → Ended (c .before .before .before .args .p .t) (valuesIn (c .before .before .before .args .p) (take (c .before .before .before .args .p .digest) (c .before .before .before .args .first)) (c .before .before .before .args .limit)) (c .reading-test .got) (c .before .before .before .args .out .now) (c .reading-test .out)
+    → Ended (c .before .before .before .args .p .t) (streamValues (c .before .before .before .args .p) (take (c .before .before .before .args .p .digest) (c .before .before .before .args .first)) (c .before .before .before .args .limit)) (c .reading-test .got) (c .before .before .before .args .out .now) (c .reading-test .out)
 ended c =
     ⊎-elim
     (λ w. ended-all _ _ _ _ (omega (arith, w .0 .left, c .before .reading .inv .0)) (c .before .reading .inv .3) (w .2) (w .1))

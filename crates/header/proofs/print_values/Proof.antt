@@ -1,6 +1,5 @@
 -- `header::print_values` meets its contract.
 use Prim.Native.Nat.{_-_}
-use native.Mathlib.Omega.{arith}
 use borrow.Author.Needs.{needs}
 use Rattle.header.proofs.print_values.Statement.{statement}
 use Rattle.header.proofs.print_values.Tie as tie
@@ -15,7 +14,7 @@ loop-holds : tie.Need-loop-holds Inv-loop μ-loop
 loop-holds c = tt
 
 value-requires : tie.Need-value-requires Inv-loop μ-loop
-value-requires c κs = (omega (arith, c .if1 .taken), c .before .before .before .before .pre)
+value-requires c κs = search needs
 
 cast-print-decimal : tie.Need-cast-print-decimal Inv-loop μ-loop
 cast-print-decimal c = search needs

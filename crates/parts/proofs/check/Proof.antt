@@ -2,7 +2,7 @@
 use mathlib.Core.Path.{sym, _∙_}
 use native.Mathlib.Omega.{arith}
 use Rattle.shape.proofs.ReadingLaws.{read-short, read-header, read-length, read-padding, read-fine}
-use Rattle.shape.proofs.SetFacts.{header≤}
+use Rattle.shape.proofs.SetFacts.{headerLength≤}
 use borrow.Author.Needs.{needs}
 use Rattle.parts.proofs.check.Statement.{statement}
 use Rattle.parts.proofs.check.Tie as tie
@@ -11,7 +11,7 @@ header-requires : tie.Need-header-requires
 header-requires c κs = search needs
 
 add-if1 : tie.Need-add-if1
-add-if1 c = omega (arith, header≤ (c .before .before .pre))
+add-if1 c = omega (arith, headerLength≤ (c .before .before .pre))
 
 returns : tie.Need-returns
 returns c = sym (read-short (c .before .before .before .args .p) (c .before .before .before .args .s .now) (omega arith))

@@ -3,7 +3,7 @@ use mathlib.Core.Path.{ap}
 use Prim.Native.Nat.{ℕ, _+_, _-_}
 use native.Mathlib.Omega.{arith}
 use Rattle.shape.proofs.RoundsLaws.{sizes-bounds}
-use Rattle.shape.proofs.SetFacts.{header≤, roundMost≤}
+use Rattle.shape.proofs.SetFacts.{headerLength≤, roundMost≤}
 use Rattle.parts.proofs.HeadLaws.{value-inside}
 use Rattle.parts.proofs.WalkLaws.{Reached, reached-first, reached-more, reached-end, reached-most}
 use borrow.Author.Needs.{needs}
@@ -20,7 +20,7 @@ header-requires : tie.Need-header-requires Inv-loop μ-loop
 header-requires c κs = search needs
 
 add-at : tie.Need-add-at Inv-loop μ-loop
-add-at c = omega (arith, header≤ (c .before .before .pre .0))
+add-at c = omega (arith, headerLength≤ (c .before .before .pre .0))
 
 loop-holds : tie.Need-loop-holds Inv-loop μ-loop
 loop-holds c = reached-first _ _ _ (ap (λ (n : ℕ). n + 32) (c .header .ensures))

@@ -5,7 +5,7 @@ use native.Mathlib.Omega.{arith}
 use borrow.Author.Tests.{not-true, not-false}
 use Rattle.shape.proofs.RoundsLaws.{sizes-bounds}
 use Rattle.shape.proofs.RoundTripsProof.{exact-long}
-use Rattle.shape.proofs.SetFacts.{digest≤, header≤, roundMost≤}
+use Rattle.shape.proofs.SetFacts.{digest≤, headerLength≤, roundMost≤}
 use Rattle.parts.proofs.HeadLaws.{value-inside}
 use Rattle.parts.proofs.WalkLaws.{transcript-within, reached-most, Padded, padded-first, padded-more, padded-fails, padded-end}
 use borrow.Author.Needs.{needs}
@@ -25,7 +25,7 @@ header-requires : tie.Need-header-requires Inv-loop μ-loop
 header-requires c κs = search needs
 
 add-at : tie.Need-add-at Inv-loop μ-loop
-add-at c = omega (arith, header≤ (c .before .before .before .pre .0))
+add-at c = omega (arith, headerLength≤ (c .before .before .before .pre .0))
 
 loop-holds : tie.Need-loop-holds Inv-loop μ-loop
 loop-holds c = padded-first _ _ _ (ap (λ (n : ℕ). n + 32) (c .header .ensures))

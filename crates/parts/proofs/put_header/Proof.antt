@@ -2,8 +2,8 @@
 use mathlib.Core.Path.{_≡_}
 use Prim.Native.Nat.{_≤_, _-_}
 use native.Mathlib.Omega.{arith}
-use Rattle.sets.specs.Lengths.{header}
-use Rattle.shape.proofs.SetFacts.{header≤}
+use Rattle.sets.specs.Lengths.{headerLength}
+use Rattle.shape.proofs.SetFacts.{headerLength≤}
 use Rattle.parts.proofs.PutLaws.{Headed, headed-none, headed-length, headed-more, headed-all}
 use borrow.Author.Needs.{needs}
 use Rattle.parts.proofs.put_header.Statement.{statement}
@@ -24,7 +24,7 @@ loop-holds c = (headed-none _ _, omega arith)
 header-byte-requires : tie.Need-header-byte-requires Inv-loop μ-loop
 header-byte-requires c κs =
     let start = c .before .before .before .before .before in
-    (omega (arith, header≤ (start .pre .0)), start .pre .1 .1 .0)
+    (omega (arith, headerLength≤ (start .pre .0)), start .pre .1 .1 .0)
 
 slice-write-output : tie.Need-slice-write-output Inv-loop μ-loop
 slice-write-output c = omega (arith, headed-length (c .before .before .loop .inv .0))
@@ -48,7 +48,7 @@ same-length c = headed-length (c .before .loop .inv .0)
 returns : tie.Need-returns Inv-loop μ-loop
 returns c =
     let start = c .before .before .before .before .before in
-    let e : c .before .loop .i ≡ header (start .args .p) =
+    let e : c .before .loop .i ≡ headerLength (start .args .p) =
     omega arith in headed-all (c .before .loop .inv .0) (start .args .p) (start .pre .1 .0) e
 
 pub put-header-spec : {M : Type 1} → statement M

@@ -1,5 +1,5 @@
 -- `parts::start` meets its contract.
-use Rattle.shape.proofs.SetFacts.{header≤}
+use Rattle.shape.proofs.SetFacts.{headerLength≤}
 use native.Mathlib.Omega.{arith}
 use borrow.Author.Needs.{needs}
 use Rattle.parts.proofs.start.Statement.{statement}
@@ -9,7 +9,7 @@ header-requires : tie.Need-header-requires
 header-requires c κs = search needs
 
 add-t3 : tie.Need-add-t3
-add-t3 c = omega (arith, header≤ (c .before .pre))
+add-t3 c = omega (arith, headerLength≤ (c .before .pre))
 
 returns : tie.Need-returns
 returns c = search needs

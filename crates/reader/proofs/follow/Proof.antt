@@ -1,12 +1,8 @@
--- `reader::follow` meets its contract.
-use mathlib.Core.Path.{sym, ap, _∙_}
-use Prim.Native.Nat.{ℕ, _+_, _<_}
+-- `reader::follow` meets its contract: what byte and bit say together, by arithmetic.
 use native.Mathlib.Omega.{arith}
-use lib.Dec.{leb}
-use lib.ListN.{length}
-use borrow.Author.Tests.{lt-leb}
-use Rattle.bits.specs.Bytes.{width}
-use Rattle.reader.proofs.FollowLaws.{left}
+use borrow.Author.Tests.{leb-true, leb-false}
+use Rattle.reader.specs.Reading.{bitNumber}
+use Rattle.reader.proofs.FollowLaws.{start, tested, outside}
 use borrow.Author.Needs.{needs}
 use Rattle.reader.proofs.follow.Statement.{statement}
 use Rattle.reader.proofs.follow.Tie as tie
@@ -15,13 +11,23 @@ whole-requires : tie.Need-whole-requires
 whole-requires c κs = search needs
 
 returns : tie.Need-returns
-returns c = sym (lt-leb _ _ (let k : length (c .before .before .before .args .s .now) < width (c .before .before .before .args .at) + c .before .before .before .args .n = omega (arith, c .if1 .taken, c .before .whole .ensures) in k))
+returns c = outside (c .before .before .before .before .args .s .now) (bitNumber (c .before .before .before .before .args .at)) (c .before .before .before .before .args .n) (omega (arith, start (c .before .before .before .before .args .at) _ (c .before .before .whole .ensures)))
+
+sub-if2 : tie.Need-sub-if2
+sub-if2 c = search needs
+
+returns-2 : tie.Need-returns-2
+returns-2 c = outside (c .before .before .before .before .before .before .args .s .now) (bitNumber (c .before .before .before .before .before .before .args .at)) (c .before .before .before .before .before .before .args .n) (omega (arith, start (c .before .before .before .before .before .before .args .at) _ (c .before .before .before .before .whole .ensures)))
 
 sub-result : tie.Need-sub-result
 sub-result c = search needs
 
-returns-2 : tie.Need-returns-2
-returns-2 c = left _ _ _ (c .if1 .left) ∙ ap (λ (w : ℕ). leb (w + c .before .before .before .args .n) (length (c .before .before .before .args .s .now))) (c .before .whole .ensures)
+sub-result-2 : tie.Need-sub-result-2
+sub-result-2 c = search needs
+
+returns-3 : tie.Need-returns-3
+returns-3 c = tested (c .before .before .before .before .before .before .before .args .s .now) (bitNumber (c .before .before .before .before .before .before .before .args .at)) (c .before .before .before .before .before .before .before .args .n) _ (λ e. omega (arith, leb-true, start (c .before .before .before .before .before .before .before .args .at) _ (c .before .before .before .before .before .whole .ensures))) (λ e. omega (arith, leb-false, start (c .before .before .before .before .before .before .before .args .at) _ (c .before .before .before .before .before .whole .ensures)))
 
 pub follow-spec : {M : Type 1} → statement M
-follow-spec = tie.close (tie.spec whole-requires returns sub-result returns-2)
+follow-spec =
+    tie.close (tie.spec whole-requires returns sub-if2 returns-2 sub-result sub-result-2 returns-3)

@@ -1,7 +1,7 @@
 -- `round::begin` meets its contract.
 use Rattle.bits.specs.Words.{blockBits}
 use Rattle.lowmc.specs.Lent.{cipherOf}
-use Rattle.round.specs.Engine.{share}
+use Rattle.round.specs.Engine.{shareIn}
 use Rattle.round.proofs.SignerLaws.{begun-of}
 use borrow.Author.Needs.{needs}
 use Rattle.round.proofs.begin.Statement.{statement}
@@ -23,7 +23,7 @@ returns c =
     let t = c .before .before .first-two .ensures in
     let s = c .before .start-shares .ensures in
     let x = c .with-third .ensures in
-    begun-of C (share (a .x)) _ (blockBits (a .whole)) _ _ _ _ (t .0) (t .1) (x .0) (x .1) (x .2) (blockBits (a .plain)) (s .0) (s .1)
+    begun-of C (shareIn (a .x)) _ (blockBits (a .whole)) _ _ _ _ (t .0) (t .1) (x .0) (x .1) (x .2) (blockBits (a .plain)) (s .0) (s .1)
 
 pub begin-spec : {M : Type 1} → statement M
 begin-spec =

@@ -3,7 +3,7 @@ use mathlib.Core.Path.{_≡_}
 use Prim.Native.Nat.{_*_}
 use Rattle.bits.specs.Bits.{upTo}
 use Rattle.circuit.specs.Round.{next, gates}
-use Rattle.round.specs.Engine.{share, rowOf}
+use Rattle.round.specs.Engine.{shareIn, rowOf}
 use Rattle.round.proofs.EngineLaws.{three}
 use borrow.Author.Needs.{needs}
 use Rattle.round.proofs.gate_rows.Statement.{statement}
@@ -21,7 +21,7 @@ gate-row-requires-3 c κs = search needs
 returns : tie.Need-returns
 returns c =
     let a = c .before .before .before .before .before .before .args in
-    three (λ j. _ ≡ upTo (3 * a .p .s) (gates (share (a .s) j) (share (a .s) (next j)) (rowOf (a .t) j) (rowOf (a .t) (next j))))
+    three (λ j. _ ≡ upTo (3 * a .p .s) (gates (shareIn (a .s) j) (shareIn (a .s) (next j)) (rowOf (a .t) j) (rowOf (a .t) (next j))))
     (c .before .before .gate-row .ensures) (c .before .gate-row2 .ensures) (c .gate-row3 .ensures)
 
 pub gate-rows-spec : {M : Type 1} → statement M

@@ -12,7 +12,7 @@ use Rattle.sets.proofs.Each.{most}
 use Rattle.circuit.specs.Lowmc.{start}
 use Rattle.circuit.specs.Round.{Party}
 use Rattle.lowmc.specs.Lent.{cipherOf}
-use Rattle.round.specs.Engine.{opening}
+use Rattle.round.specs.Engine.{openingOnWords}
 use Rattle.round.proofs.VerifierLaws.{Goes, goes, Followed, followed-none, followed-more, followed-all}
 use borrow.Author.Needs.{needs}
 use Rattle.round.proofs.recompute.Statement.{statement}
@@ -25,7 +25,7 @@ Inv-loop p keys layers constants e tape1 tape2 given r in1 in2 shares s₀ words
     → Goes in1 in2 j
     → blockBits (s₀ .a) ≡ start (cipherOf p keys layers constants) (blockBits (shares .a)) (cond in1 q zeros)
     → blockBits (s₀ .b) ≡ start (cipherOf p keys layers constants) (blockBits (shares .b)) (cond in2 q zeros)
-    → Followed (cipherOf p keys layers constants) q j (opening (shares .a) (shares .b) tape1 tape2 given) i (blockBits (s .a)) (blockBits (s .b)) words)
+    → Followed (cipherOf p keys layers constants) q j (openingOnWords (shares .a) (shares .b) tape1 tape2 given) i (blockBits (s .a)) (blockBits (s .b)) words)
 
 abbrev μ-loop : tie.MeasureT-loop
 μ-loop p keys layers constants e tape1 tape2 given r in1 in2 shares s₀ words₀ i₀ s words i = r - i
@@ -37,7 +37,7 @@ loop-holds : tie.Need-loop-holds Inv-loop μ-loop
 loop-holds c =
     let a = c .before .before .before .before .args in
     let C = cipherOf (a .p) (a .keys .now) (a .layers .now) (a .constants .now) in
-    (search needs, most (λ (q : Set). q .r) 38 tt tt tt (c .before .before .before .before .pre .is-set), refl, search needs, λ q j h ex ey. followed-none C q j (opening (a .share1) (a .share2) (a .t9) (a .t10) (a .t11)) _ _ h 40 _ _ ex ey)
+    (search needs, most (λ (q : Set). q .r) 38 tt tt tt (c .before .before .before .before .pre .is-set), refl, search needs, λ q j h ex ey. followed-none C q j (openingOnWords (a .share1) (a .share2) (a .t9) (a .t10) (a .t11)) _ _ h 40 _ _ ex ey)
 
 mul-gate-row : tie.Need-mul-gate-row Inv-loop μ-loop
 mul-gate-row c = search needs
@@ -86,7 +86,7 @@ loop-again c =
       l .inv .1,
       l .inv .2,
       simp length-set (l .inv .3),
-      λ q j h ex ey. followed-more C q j (opening (a .share1) (a .share2) (a .t9) (a .t10) (a .t11)) _ _ h (l .i) (blockBits (l .s .a)) (blockBits (l .s .b)) _ _ _ (l .words) (omega (arith, l .inv .2, l .inv .3)) (c .before .before .gate-row .ensures) (s .0) (s .1) (l .inv .4 q j h ex ey),
+      λ q j h ex ey. followed-more C q j (openingOnWords (a .share1) (a .share2) (a .t9) (a .t10) (a .t11)) _ _ h (l .i) (blockBits (l .s .a)) (blockBits (l .s .b)) _ _ _ (l .words) (omega (arith, l .inv .2, l .inv .3)) (c .before .before .gate-row .ensures) (s .0) (s .1) (l .inv .4 q j h ex ey),
     )
 
 returns : tie.Need-returns Inv-loop μ-loop
@@ -96,7 +96,7 @@ returns c =
     let C = cipherOf (a .p) (a .keys .now) (a .layers .now) (a .constants .now) in
     let e : l .i ≡ a .p .r = omega (arith, l .inv .0, l .inv .2) in
     let s = c .before .before .before .before .start-shares .ensures in
-    λ j h. followed-all C (blockBits (a .plain)) j (opening (a .share1) (a .share2) (a .t9) (a .t10) (a .t11)) (l .i) e _ (l .inv .4 (blockBits (a .plain)) j (goes (a .e) j h) (s .0) (s .1))
+    λ j h. followed-all C (blockBits (a .plain)) j (openingOnWords (a .share1) (a .share2) (a .t9) (a .t10) (a .t11)) (l .i) e _ (l .inv .4 (blockBits (a .plain)) j (goes (a .e) j h) (s .0) (s .1))
 
 pub recompute-spec : {M : Type 1} → statement M
 recompute-spec =

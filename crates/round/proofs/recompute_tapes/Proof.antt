@@ -2,7 +2,7 @@
 use mathlib.Core.Path.{refl}
 use Rattle.bits.specs.Words.{blockBits}
 use Rattle.lowmc.specs.Lent.{cipherOf}
-use Rattle.round.specs.Engine.{opening}
+use Rattle.round.specs.Engine.{openingOnWords}
 use Rattle.round.specs.Inputs.{openingOf}
 use Rattle.round.proofs.InputsLaws.{next-number, from-start}
 use Rattle.round.proofs.VerifierLaws.{recomputed-cong}
@@ -33,7 +33,7 @@ returns c =
     let m = a .layers .now in
     let n = a .constants .now in
     let C = cipherOf (a .p) k m n in
-    λ j h. recomputed-cong C (blockBits (a .plain)) j (opening (a .share1) (a .share2) (c .before .before .before .tape-rows .result) (c .before .before .tape-rows2 .result) (c .before .rows-from .result)) (openingOf C j (blockBits (a .share1)) (blockBits (a .share2)) (a .tape1 .now) (a .tape2 .now) (a .given .now))
+    λ j h. recomputed-cong C (blockBits (a .plain)) j (openingOnWords (a .share1) (a .share2) (c .before .before .before .tape-rows .result) (c .before .before .tape-rows2 .result) (c .before .rows-from .result)) (openingOf C j (blockBits (a .share1)) (blockBits (a .share2)) (a .tape1 .now) (a .tape2 .now) (a .given .now))
     (record {
       share₁ = refl;
       share₂ = refl;

@@ -10,7 +10,7 @@ use Rattle.sets.proofs.Each.{most}
 use Rattle.circuit.specs.Lowmc.{stateAfter}
 use Rattle.circuit.specs.RoundTheorems.{xor3}
 use Rattle.lowmc.specs.Lent.{cipherOf}
-use Rattle.round.specs.Engine.{share, word, rowOf, Traced}
+use Rattle.round.specs.Engine.{shareIn, word, rowOf, Traced}
 use Rattle.round.specs.Inner.{Begun}
 use Rattle.round.specs.Inputs.{tapesOf}
 use Rattle.round.proofs.SignerLaws.{Done, done-none, done-more, done-all}
@@ -22,10 +22,10 @@ abbrev Inv-loop : tie.InvT-loop
 Inv-loop p keys layers constants x t0 t1 t2 states r s₀ a₀ b₀ c₀ i₀ s a b c i =
     (i ≤ r) × (r ≤ 38) × (r ≡ p .r) × (length a ≡ 40) × (length b ≡ 40) × (length c ≡ 40)
     × ((q w : Bits)
-    → Traced (cipherOf p keys layers constants) (xor3 (share x)) q states
-    → w ≡ stateAfter (cipherOf p keys layers constants) (xor3 (share x)) q 0
-    → Begun (cipherOf p keys layers constants) q (share x) w (share s₀)
-    → Done (cipherOf p keys layers constants) q (share x) (tapesOf (cipherOf p keys layers constants) t0 t1 t2) i (share s) a b c)
+    → Traced (cipherOf p keys layers constants) (xor3 (shareIn x)) q states
+    → w ≡ stateAfter (cipherOf p keys layers constants) (xor3 (shareIn x)) q 0
+    → Begun (cipherOf p keys layers constants) q (shareIn x) w (shareIn s₀)
+    → Done (cipherOf p keys layers constants) q (shareIn x) (tapesOf (cipherOf p keys layers constants) t0 t1 t2) i (shareIn s) a b c)
 
 abbrev μ-loop : tie.MeasureT-loop
 μ-loop p keys layers constants x t0 t1 t2 states r s₀ a₀ b₀ c₀ i₀ s a b c i = r - i
@@ -40,7 +40,7 @@ loop-holds : tie.Need-loop-holds Inv-loop μ-loop
 loop-holds c =
     let a = c .before .before .before .before .before .before .before .before .before .args in
     let C = cipherOf (a .p) (a .keys .now) (a .layers .now) (a .constants .now) in
-    (search needs, most (λ (q : Set). q .r) 38 tt tt tt (c .before .before .before .before .before .before .before .before .before .pre .0 .is-set), refl, search needs, search needs, search needs, λ q w h e g. done-none C q (share (a .x)) (tapesOf C (a .t0 .now) (a .t1 .now) (a .t2 .now)) 40 w _ e g)
+    (search needs, most (λ (q : Set). q .r) 38 tt tt tt (c .before .before .before .before .before .before .before .before .before .pre .0 .is-set), refl, search needs, search needs, search needs, λ q w h e g. done-none C q (shareIn (a .x)) (tapesOf C (a .t0 .now) (a .t1 .now) (a .t2 .now)) 40 w _ e g)
 
 rows-at-requires : tie.Need-rows-at-requires Inv-loop μ-loop
 rows-at-requires c κs = search needs
@@ -92,7 +92,7 @@ loop-again c =
       simp length-set (l .inv .3),
       simp length-set (l .inv .4),
       simp length-set (l .inv .5),
-      λ q w h e g. done-more C q (share (a .x)) (tapesOf C (a .t0 .now) (a .t1 .now) (a .t2 .now)) (l .i) (share (l .s)) (rowOf (c .before .before .before .rows-at .result)) (share (c .step .result)) (word (c .before .before .gate-rows .result)) _ (l .a) (l .b) (l .c)
+      λ q w h e g. done-more C q (shareIn (a .x)) (tapesOf C (a .t0 .now) (a .t1 .now) (a .t2 .now)) (l .i) (shareIn (l .s)) (rowOf (c .before .before .before .rows-at .result)) (shareIn (c .step .result)) (word (c .before .before .gate-rows .result)) _ (l .a) (l .b) (l .c)
           (omega (arith, l .inv .2)) (omega (arith, l .inv .2, l .inv .3)) (omega (arith, l .inv .2, l .inv .4)) (omega (arith, l .inv .2, l .inv .5))
           (c .before .before .before .rows-at .ensures (a .keys .now) (a .layers .now) (a .constants .now)) (c .before .before .gate-rows .ensures) (c .before .state-at2 .ensures ∙ h (l .i + 1) (omega (arith, l .inv .2))) (c .step .ensures) (l .inv .6 q w h e g),
     )
@@ -104,7 +104,7 @@ returns c =
     let C = cipherOf (a .p) (a .keys .now) (a .layers .now) (a .constants .now) in
     let e : l .i ≡ a .p .r = omega (arith, l .inv .0, l .inv .2) in
     let h = c .before .before .before .before .before .before .before .before .before .before .before .pre .1 in
-    done-all C (blockBits (a .plain)) (share (a .x)) (tapesOf C (a .t0 .now) (a .t1 .now) (a .t2 .now)) (l .i) e _ (l .inv .6 (blockBits (a .plain)) _ h (c .before .before .before .state-at .ensures ∙ h 0 (omega arith)) (c .before .before .begin .ensures))
+    done-all C (blockBits (a .plain)) (shareIn (a .x)) (tapesOf C (a .t0 .now) (a .t1 .now) (a .t2 .now)) (l .i) e _ (l .inv .6 (blockBits (a .plain)) _ h (c .before .before .before .state-at .ensures ∙ h 0 (omega arith)) (c .before .before .begin .ensures))
 
 pub simulate-spec : {M : Type 1} → statement M
 simulate-spec =

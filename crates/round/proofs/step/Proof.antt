@@ -1,7 +1,7 @@
 -- `round::step` meets its contract.
 use Rattle.bits.specs.Words.{blockBits}
 use Rattle.lowmc.specs.Lent.{cipherOf}
-use Rattle.round.specs.Engine.{share, rowOf}
+use Rattle.round.specs.Engine.{shareIn, rowOf}
 use Rattle.round.proofs.SignerLaws.{stepped-of}
 use borrow.Author.Needs.{needs}
 use Rattle.round.proofs.step.Statement.{statement}
@@ -27,7 +27,7 @@ returns c =
     let m = c .before .before .first-two2 .ensures in
     let s = c .before .advance-shares .ensures in
     let x = c .with-third .ensures in
-    stepped-of C (share (a .x)) _ (blockBits (a .whole)) _ _ _ _ (t .0) (t .1) (x .0) (x .1) (x .2) (a .i) (share (a .s)) (rowOf (a .g)) _ _ (m .0) (m .1) (s .0) (s .1)
+    stepped-of C (shareIn (a .x)) _ (blockBits (a .whole)) _ _ _ _ (t .0) (t .1) (x .0) (x .1) (x .2) (a .i) (shareIn (a .s)) (rowOf (a .g)) _ _ (m .0) (m .1) (s .0) (s .1)
 
 pub step-spec : {M : Type 1} → statement M
 step-spec =

@@ -4,7 +4,7 @@ use Prim.Native.Nat.{_+_, _-_}
 use native.Mathlib.Omega.{arith}
 use lib.ListN.{drop, getD, length-take}
 use Rattle.shape.proofs.RoundsLaws.{sizes-bounds}
-use Rattle.shape.proofs.SetFacts.{t≤, header≤, roundMost≤}
+use Rattle.shape.proofs.SetFacts.{t≤, headerLength≤, roundMost≤}
 use Rattle.signature.proofs.PackLaws.{Packed, packed-none, packed-length, packed-inside, packed-small, packed-more, packed-all}
 use borrow.Author.Needs.{needs}
 use Rattle.signature.proofs.put_rounds.Statement.{statement}
@@ -26,7 +26,7 @@ header-requires : tie.Need-header-requires Inv-loop μ-loop
 header-requires c κs = search needs
 
 add-at : tie.Need-add-at Inv-loop μ-loop
-add-at c = omega (arith, header≤ (c .before .before .before .before .pre .0))
+add-at c = omega (arith, headerLength≤ (c .before .before .before .before .pre .0))
 
 loop-holds : tie.Need-loop-holds Inv-loop μ-loop
 loop-holds c = packed-none _ _ _ _ _ (omega arith) (omega arith)

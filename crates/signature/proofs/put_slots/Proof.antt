@@ -3,7 +3,7 @@ use Prim.Native.Nat.{_-_}
 use native.Mathlib.Omega.{arith}
 use Rattle.shape.proofs.RoundsLaws.{sizes-bounds}
 use Rattle.shape.proofs.RoundTripsProof.{exact-long}
-use Rattle.shape.proofs.SetFacts.{header≤, roundMost≤, t≤}
+use Rattle.shape.proofs.SetFacts.{headerLength≤, roundMost≤, t≤}
 use Rattle.parts.proofs.HeadLaws.{value-inside}
 use Rattle.parts.proofs.WalkLaws.{reached-most}
 use Rattle.signature.proofs.UnpackLaws.{Unpacked, unpacked-none, unpacked-length, unpacked-inside, unpacked-most, unpacked-more, unpacked-all}
@@ -24,7 +24,7 @@ header-requires : tie.Need-header-requires Inv-loop μ-loop
 header-requires c κs = search needs
 
 add-at : tie.Need-add-at Inv-loop μ-loop
-add-at c = omega (arith, header≤ (c .before .before .before .before .pre .0))
+add-at c = omega (arith, headerLength≤ (c .before .before .before .before .pre .0))
 
 add-to : tie.Need-add-to Inv-loop μ-loop
 add-to c = omega (arith, t≤ (c .before .before .before .before .pre .0))

@@ -2,7 +2,7 @@
 use mathlib.Core.Path.{refl}
 use native.Mathlib.Omega.{arith}
 use Rattle.shape.proofs.RoundTripsProof.{exact-long}
-use Rattle.shape.proofs.SetFacts.{header≤}
+use Rattle.shape.proofs.SetFacts.{headerLength≤}
 use Rattle.signature.proofs.UnpackLaws.{unpacked}
 use borrow.Author.Needs.{needs}
 use Rattle.signature.proofs.unpack.Statement.{statement}
@@ -12,7 +12,7 @@ header-requires : tie.Need-header-requires
 header-requires c κs = search needs
 
 add-end : tie.Need-add-end
-add-end c = omega (arith, header≤ (c .before .before .before .pre .0))
+add-end c = omega (arith, headerLength≤ (c .before .before .before .pre .0))
 
 put-values-requires : tie.Need-put-values-requires
 put-values-requires c κs =

@@ -4,9 +4,10 @@ use mathlib.Core.List.{_++_}
 use Rattle.slices.specs.Slices.{Bytes, put}
 use Rattle.circuit.specs.Round.{party0, party1, party2}
 use Rattle.lowmc.specs.Lent.{cipherOf}
+use Rattle.lowmc.specs.Encrypted.{plaintext}
 use Rattle.views.specs.Parties.{three}
 use Rattle.views.specs.Signed.{seedAt, saltAt, tapes}
-use Rattle.views.specs.Input.{plaintext, signedCommitments}
+use Rattle.views.specs.Input.{signedCommitments}
 use Rattle.room.specs.Room.{sharesAt, commitmentsAt}
 use Rattle.signer.proofs.PlayLaws.{played-over}
 use borrow.Author.Needs.{needs}

@@ -4,7 +4,7 @@ use Prim.Native.Nat.{_*_}
 use lib.ListN.{take}
 use Rattle.bits.specs.Bytes.{bytesOf}
 use Rattle.bits.specs.Rows.{Rows, flat}
-use Rattle.sets.specs.Lengths.{transcript}
+use Rattle.sets.specs.Lengths.{transcriptLength}
 use Rattle.circuit.specs.Round.{party0, party1, party2}
 use Rattle.round.specs.Engine.{said, Written}
 use Rattle.round.proofs.EngineLaws.{three}
@@ -26,7 +26,7 @@ returns c =
     let p = a .p in (
       refl,
       refl,
-      three (λ j. (u : Rows) → Written (3 * p .s) (p .r) u (said (a .v) j) → take (transcript p) _ ≡ bytesOf (3 * p .s * p .r) (flat (3 * p .s) u))
+      three (λ j. (u : Rows) → Written (3 * p .s) (p .r) u (said (a .v) j) → take (transcriptLength p) _ ≡ bytesOf (3 * p .s * p .r) (flat (3 * p .s) u))
           (c .before .before .transcribed .ensures) (c .before .transcribed2 .ensures) (c .transcribed3 .ensures),
     )
 

@@ -7,7 +7,7 @@ use Rattle.bits.specs.Bytes.{bitsOf}
 use Rattle.sets.specs.Lengths.{w}
 use Rattle.circuit.specs.Round.{party0, party2}
 use Rattle.lowmc.specs.Lent.{cipherOf}
-use Rattle.views.specs.Input.{plaintext}
+use Rattle.lowmc.specs.Encrypted.{plaintext}
 use Rattle.room.proofs.RoomLaws.{take-as, rest-as}
 use Rattle.signer.specs.Played.{tapesIn}
 use Rattle.signer.proofs.PlayLaws.{traced-as, played-over}

@@ -5,7 +5,7 @@ use Rattle.bits.specs.Bits.{Bits}
 use Rattle.lowmc.specs.Lent.{cipherOf}
 use Rattle.lowmc.proofs.LentLaws.{block-small}
 use Rattle.round.specs.Inputs.{inputShare}
-use Rattle.round.specs.Engine.{share}
+use Rattle.round.specs.Engine.{shareIn}
 use Rattle.round.proofs.InputsLaws.{shares-xor}
 use Rattle.room.proofs.RoomLaws.{sizes}
 use Rattle.signer.proofs.PlayLaws.{traced-as, played-as}
@@ -32,7 +32,7 @@ simulate-requires c κs =
     let h = c .before .before .before .before .before .before .before .before .before .before .before .before .pre in (
       h .0,
       traced-as (cipherOf (a .p) (a .keys .now) (a .layers .now) (a .constants .now)) _ _ _ _ (a .states .now)
-          (shares-xor (a .p .n) _ (a .t0 .now) (a .t1 .now) (share (c .before .input-shares .result)) (c .before .input-shares .ensures) ∙ c .before .before .load .ensures)
+          (shares-xor (a .p .n) _ (a .t0 .now) (a .t1 .now) (shareIn (c .before .input-shares .result)) (c .before .input-shares .ensures) ∙ c .before .before .load .ensures)
           (c .load2 .ensures) (h .3),
       h .4,
     )

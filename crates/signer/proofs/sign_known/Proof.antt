@@ -3,7 +3,7 @@ use mathlib.Core.Path.{sym, _∙_}
 use Prim.Native.Nat.{ℕ}
 use denote.Ref.{now}
 use borrow.Author.Tests.{not-true, not-false}
-use Rattle.views.specs.Input.{plaintext}
+use Rattle.lowmc.specs.Encrypted.{plaintext}
 use Rattle.signer.specs.Sign.{Given}
 use Rattle.signer.proofs.SignLaws.{fitting, stopped, unpaired, signed}
 use borrow.Author.Needs.{needs}
@@ -14,7 +14,7 @@ use Rattle.signer.proofs.sign_known.Tie as tie
 abbrev given : tie.Start → ℕ → Given
 given s set =
     record {
-      set = set;
+      setNumber = set;
       keys = now (s .args .keys);
       layers = now (s .args .layers);
       constants = now (s .args .constants);

@@ -17,7 +17,7 @@ use Rattle.signer.proofs.sign_ready.Tie as tie
 abbrev given : tie.Start → ℕ → Given
 given s set =
     record {
-      set = set;
+      setNumber = set;
       keys = now (s .args .keys);
       layers = now (s .args .layers);
       constants = now (s .args .constants);

@@ -3,7 +3,7 @@ use mathlib.Core.Path.{_∙_, sym, ap}
 use Rattle.bits.specs.Bytes.{bitsOf}
 use Rattle.lowmc.specs.Lent.{cipherOf}
 use Rattle.lowmc.proofs.LentLaws.{block-small}
-use Rattle.views.specs.Input.{plaintext}
+use Rattle.lowmc.specs.Encrypted.{plaintext}
 use Rattle.room.proofs.RoomLaws.{rest-as}
 use Rattle.signer.proofs.PlayLaws.{traced-as}
 use Rattle.signer.proofs.SignLaws.{plaintext-small}

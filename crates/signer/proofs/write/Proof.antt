@@ -2,7 +2,7 @@
 use Prim.Native.Nat.{_-_}
 use native.Mathlib.Omega.{arith}
 use Rattle.lowmc.specs.Lent.{cipherOf}
-use Rattle.shape.proofs.SetFacts.{t≤, header≤}
+use Rattle.shape.proofs.SetFacts.{t≤, headerLength≤}
 use Rattle.signer.proofs.WriteRoundsLaws.{Rounds, rounds-none, rounds-length, rounds-inside, rounds-more, rounds-end, rounds-all}
 use borrow.Author.Needs.{needs}
 use Rattle.signer.proofs.write.Statement.{statement}
@@ -23,7 +23,7 @@ header-requires : tie.Need-header-requires Inv-loop μ-loop
 header-requires c κs = search needs
 
 add-at : tie.Need-add-at Inv-loop μ-loop
-add-at c = omega (arith, header≤ (c .before .before .before .before .before .before .before .before .before .before .before .before .before .before .pre .0 .lent .is-set))
+add-at c = omega (arith, headerLength≤ (c .before .before .before .before .before .before .before .before .before .before .before .before .before .before .pre .0 .lent .is-set))
 
 loop-holds : tie.Need-loop-holds Inv-loop μ-loop
 loop-holds c = rounds-none _ _ _ _ _ _ _ _ (omega arith)

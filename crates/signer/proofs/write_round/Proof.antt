@@ -2,8 +2,8 @@
 use mathlib.Core.Path.{refl}
 use Rattle.circuit.specs.Round.{party0, party1, party2}
 use Rattle.lowmc.specs.Lent.{cipherOf}
+use Rattle.lowmc.specs.Encrypted.{plaintext}
 use Rattle.views.specs.Signed.{seedAt, saltAt, tapes}
-use Rattle.views.specs.Input.{plaintext}
 use Rattle.signer.proofs.PlayLaws.{played-over}
 use borrow.Author.Needs.{needs}
 use Rattle.signer.proofs.write_round.Statement.{statement}

@@ -3,7 +3,7 @@ use Prim.Native.Nat.{_+_, _*_}
 use Rattle.bits.specs.Bytes.{width}
 use Rattle.sets.specs.declared.Set.{Set}
 use Rattle.sets.proofs.Each.{fits-set}
-use Rattle.sets.specs.Lengths.{header, salt, roundMost, longest}
+use Rattle.sets.specs.Lengths.{headerLength, saltLength, roundMost, longest}
 use borrow.Author.Needs.{needs}
 use Rattle.sets.proofs.Set.longest.Statement.{statement}
 use Rattle.sets.proofs.Set.longest.Tie as tie
@@ -13,7 +13,7 @@ header-requires c κs = search needs
 
 add-result : tie.Need-add-result
 unfolding width
-add-result c = rw (c .header .ensures) (fits-set (λ (p : Set). header p + salt) tt tt tt (c .before .pre))
+add-result c = rw (c .header .ensures) (fits-set (λ (p : Set). headerLength p + saltLength) tt tt tt (c .before .pre))
 
 round-most-requires : tie.Need-round-most-requires
 round-most-requires c κs = search needs

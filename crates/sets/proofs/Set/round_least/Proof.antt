@@ -3,7 +3,7 @@ use Prim.Native.Nat.{_+_, _*_}
 use Rattle.bits.specs.Bytes.{width}
 use Rattle.sets.specs.declared.Set.{Set}
 use Rattle.sets.proofs.Each.{fits-set}
-use Rattle.sets.specs.Lengths.{transcript, seedWidth, roundLeast}
+use Rattle.sets.specs.Lengths.{transcriptLength, seedWidth, roundLeast}
 use borrow.Author.Needs.{needs}
 use Rattle.sets.proofs.Set.round_least.Statement.{statement}
 use Rattle.sets.proofs.Set.round_least.Tie as tie
@@ -13,7 +13,7 @@ transcript-requires c κs = search needs
 
 add-result : tie.Need-add-result
 unfolding width
-add-result c = rw (c .before .transcript .ensures) (fits-set (λ (p : Set). p .digest + transcript p) tt tt tt (c .before .before .pre))
+add-result c = rw (c .before .transcript .ensures) (fits-set (λ (p : Set). p .digest + transcriptLength p) tt tt tt (c .before .before .pre))
 
 seed-width-requires : tie.Need-seed-width-requires
 seed-width-requires c κs = search needs

@@ -3,13 +3,13 @@ use Prim.Native.Nat.{_+_, _*_}
 use Rattle.bits.specs.Bytes.{width}
 use Rattle.sets.specs.declared.Set.{Set}
 use Rattle.sets.proofs.Each.{fits-set}
-use Rattle.sets.specs.Lengths.{salt, roundMost, unpackedLength}
+use Rattle.sets.specs.Lengths.{saltLength, roundMost, unpackedLength}
 use borrow.Author.Needs.{needs}
 use Rattle.sets.proofs.Set.unpacked_length.Statement.{statement}
 use Rattle.sets.proofs.Set.unpacked_length.Tie as tie
 
 add-result : tie.Need-add-result
-add-result c = fits-set (λ (p : Set). p .t + salt) tt tt tt (c .before .pre)
+add-result c = fits-set (λ (p : Set). p .t + saltLength) tt tt tt (c .before .pre)
 
 round-most-requires : tie.Need-round-most-requires
 round-most-requires c κs = search needs
