@@ -25,6 +25,10 @@ rated =
     (record { some = lit< tt; small = lit< tt; words = refl })
     (record { some = lit< tt; small = lit< tt; words = refl })
 
+-- a sponge that was fed x first
+pub fed-first : (r : ℕ) (s t : Sponge) (x : Bytes) → s ≡ started r → t ≡ absorbed s x → t ≡ absorbed (started r) x
+fed-first r s t x es et = et ∙ ap (λ (u : Sponge). absorbed u x) es
+
 -- a sponge that was fed m and then x
 pub fed-more : (r : ℕ) (s t : Sponge) (m x : Bytes) → s ≡ absorbed (started r) m → t ≡ absorbed s x → t ≡ absorbed (started r) (m ++ x)
 unfolding AbsorbsInPieces

@@ -1,10 +1,8 @@
 -- `hashing::tape_from` meets its contract.
 use native.Mathlib.Omega.{arith}
-use mathlib.Core.Path.{_∙_, ap}
+use mathlib.Core.Path.{_∙_}
 use lib.ListN.{length}
-use Rattle.shake.specs.declared.Sponge.{Sponge}
-use Rattle.shake.specs.Sponge.{absorbed}
-use Rattle.hashing.proofs.HashingLaws.{rated, fed-more, kdf-given, fed-tape}
+use Rattle.hashing.proofs.HashingLaws.{rated, fed-first, fed-more, kdf-given, fed-tape}
 use borrow.Author.Needs.{needs}
 use Rattle.hashing.proofs.tape_from.Statement.{statement}
 use Rattle.hashing.proofs.tape_from.Tie as tie
@@ -43,7 +41,7 @@ returns : tie.Need-returns
 returns c =
     let start = c .before .before .before .before .before .before .before .before .before .before .before .before .before .before in
     let a = start .args in
-    let e1 = c .before .before .before .before .before .before .before .before .before .absorb .ensures .0 ∙ ap (λ (s : Sponge). absorbed s (a .d .now)) (c .before .before .before .before .before .before .before .before .before .before .new .ensures .0) in
+    let e1 = fed-first _ _ _ _ (c .before .before .before .before .before .before .before .before .before .before .new .ensures .0) (c .before .before .before .before .before .before .before .before .before .absorb .ensures .0) in
     let e2 = fed-more _ _ _ _ _ e1 (c .before .before .before .before .before .before .before .before .absorb2 .ensures .0) in
     let e3 = fed-more _ _ _ _ _ e2 (c .before .before .before .before .before .before .before .absorb-u16 .ensures .0) in
     let e4 = fed-more _ _ _ _ _ e3 (c .before .before .before .before .before .before .absorb-u162 .ensures .0) in
