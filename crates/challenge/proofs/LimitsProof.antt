@@ -1,7 +1,7 @@
 -- What the block limit does to the outcome of the challenge call.
 use mathlib.Core.Path.{_≡_, refl, sym, ap, _∙_}
 use mathlib.Core.Logic.{_⊎_, inl, inr, ⊎-elim}
-use mathlib.Core.Bool.{Bool, true, false, _||_}
+use mathlib.Core.Bool.{Bool, true, false}
 use Prim.Native.Nat.{ℕ, _≤_, _<_}
 use native.Mathlib.Omega.{arith}
 use lib.Dec.{eqb, ltb}
@@ -15,6 +15,7 @@ use Rattle.bits.proofs.NumberLaws.{below}
 use Rattle.answers.specs.Conditions.{limitOut}
 use Rattle.answers.specs.declared.Refusal.the-variants.{Blocks}
 use Rattle.answers.specs.Outcome.{refused, gives}
+use Rattle.answers.proofs.ConditionsLaws.{neither}
 use Rattle.hashing.specs.Hashing.{h}
 use Rattle.hashing.proofs.HashingLaws.{length-h}
 use Rattle.challenge.specs.Blocks.{chain, stream, streamValues, tooFew}
@@ -38,14 +39,11 @@ one-block-is-too-few input output n = challenged-few (numbered 1) input 1 output
 
 -- ---- a larger limit
 
-either-false : (a b : Bool) → (a || b) ≡ false → (a ≡ false) × (b ≡ false)
-either-false true b e = absurd (let z : _≡_ {A = ℕ} 0 1 = cc in omega arith)
-either-false false b e = (refl, e)
-
-larger-legal : (limit larger : ℕ) → limitOut limit ≡ false → limit ≤ larger → larger ≤ 64 → limitOut larger ≡ false
+-- a legal limit that is no smaller
+pub larger-legal : (limit larger : ℕ) → limitOut limit ≡ false → limit ≤ larger → larger ≤ 64 → limitOut larger ≡ false
 unfolding limitOut
 larger-legal limit larger e n m =
-    let some = either-false (eqb limit 0) (ltb 64 limit) e .0 in
+    let some = neither (eqb limit 0) (ltb 64 limit) e .0 in
     rw (ne-eqb larger 0 (λ z. eqb-false limit 0 some (omega arith)), le-ltb 64 larger m)
 
 pub limit-settles-blocks : LimitSettlesBlocks

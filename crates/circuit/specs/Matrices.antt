@@ -13,4 +13,4 @@ rowParity n row x = parity n (λ j. row j && x j)
 
 -- output bit i of a product, one of n, is the parity of row i AND the vector
 unfoldable pub product : ℕ → Matrix → Bits → Bits
-product n M x = upTo n (λ i. rowParity n (M i) x)
+product n rows x = upTo n (λ i. rowParity n (rows i) x)

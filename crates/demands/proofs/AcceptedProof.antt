@@ -1,12 +1,10 @@
 -- Demand 3, first half: no check of verifying holds for a signature that signing has written.
 use mathlib.Core.Path.{_≡_, ap, _∙_}
-use mathlib.Core.Bool.{false}
 use mathlib.Core.List.{List, _++_}
-use Prim.Native.Nat.{ℕ, _≤_}
-use native.Mathlib.Omega.{arith}
-use lib.Dec.{T, eqb, ltb}
+use Prim.Native.Nat.{ℕ}
+use lib.Dec.{T}
 use lib.ListN.{length}
-use borrow.Author.Tests.{le-ltb, ne-eqb, eqb-false}
+use borrow.Author.Tests.{le-ltb}
 use Rattle.slices.specs.Slices.{Bytes}
 use Rattle.slices.proofs.EqualLaws.{equal-self}
 use Rattle.sets.specs.declared.Set.{Set}
@@ -17,12 +15,11 @@ use Rattle.sets.proofs.Each.{known-set}
 use Rattle.answers.specs.declared.Refusal.{Refusal}
 use Rattle.answers.specs.declared.Refusal.the-variants.{Fine}
 use Rattle.answers.specs.Answers.{Check, first, answer}
-use Rattle.answers.specs.Conditions.{limitOut}
 use Rattle.answers.proofs.AnswersLaws.{refusing, first-append}
-use Rattle.answers.proofs.ConditionsLaws.{neither}
 use Rattle.hashing.specs.Hashing.{h}
 use Rattle.challenge.specs.Blocks.{firstValues}
 use Rattle.challenge.proofs.BlocksLaws.{length-first, enough-after, first-after, first-small}
+use Rattle.challenge.proofs.LimitsProof.{larger-legal}
 use Rattle.shape.specs.Form.{form, valuesIn}
 use Rattle.shape.specs.Reading.{readChecks}
 use Rattle.signer.specs.Sign as sign
@@ -35,12 +32,6 @@ use Rattle.demands.proofs.HonestRunsProof.{reread}
 -- groups of checks that pass one after the other
 both-pass : (xs ys : List Check) → T (refusing xs) → first xs ≡ Fine → first ys ≡ Fine → first (xs ++ ys) ≡ Fine
 both-pass xs ys t e d = first-append xs ys t ∙ rw (e, d)
-
-larger-legal : (limit larger : ℕ) → limitOut limit ≡ false → limit ≤ larger → larger ≤ 64 → limitOut larger ≡ false
-unfolding limitOut
-larger-legal limit larger e m l =
-    let some = neither (eqb limit 0) (ltb 64 limit) e .0 in
-    rw (ne-eqb larger 0 (λ z. eqb-false limit 0 some (omega arith)), le-ltb 64 larger l)
 
 module _ (p : Set) (g : sign.Given) (known : numbered (g .setNumber) ≡ Known p) (s : Passed p g)
     (limit : ℕ) (room : Bytes) (n : Enough g limit room) where

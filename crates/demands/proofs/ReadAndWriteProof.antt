@@ -28,16 +28,16 @@ use Rattle.demands.specs.ReadAndWrite.{ReadThenWritten, WrittenThenRead}
 -- ---- a call that gives bytes
 
 module _ (o : Outcome) (vs before : Bytes) (n : ℕ) (after : Bytes) (g : o ≡ gives vs) (k : Promise o before n after) where
-  pub gave : (n ≡ length vs) × (after ≡ over vs before)
+  pub promise-gave : (n ≡ length vs) × (after ≡ over vs before)
   unfolding answerOf leftBy
-  gave =
+  promise-gave =
       let a : n ≡ answer Fine (length vs) = k .answered ∙ ap answerOf g in
       (omega (arith, a), k .left ∙ ap (λ (x : Outcome). leftBy x before) g)
 
-  -- as many bytes as it answered are those it gave
+  -- as many bytes as it answered are those it promise-gave
   pub gave-bytes : take n after ≡ vs
   unfolding over
-  gave-bytes = let (a, b) = gave in rw b (take-at vs (drop (length vs) before) n (sym a))
+  gave-bytes = let (a, b) = promise-gave in rw b (take-at vs (drop (length vs) before) n (sym a))
 
 -- where a length alone is answered, the checks pass
 pub unless-alone : (ks : List Check) (vs before : Bytes) (n : ℕ) (after : Bytes) → Promise (unless ks vs) before n after → n < 2 ^ 32 → first ks ≡ Fine
@@ -101,7 +101,7 @@ read-then-written set s before x n small k l output last m long again =
     let p = c .p in
     let (r, b) = read-left p s before n x l (c .promise) in
     let g = write-given (numbered set) p (c .known) (form p s) (length output) s (long p (c .known)) (read-is-written p s (form p s) small r) in
-    gave _ s output m last (ap (λ (y : Bytes). write (numbered set) y (length output)) b ∙ g) again
+    promise-gave _ s output m last (ap (λ (y : Bytes). write (numbered set) y (length output)) b ∙ g) again
 
 pub written-then-read : WrittenThenRead
 unfolding WrittenThenRead WrittenIsRead write
@@ -110,4 +110,4 @@ written-then-read set x before s n k l output last m long again =
     let p = c .p in
     let (r, b) = write-left p x before n s l (c .promise) in
     let g = read-given (numbered set) p (c .known) (signature p x) (length output) x (long p (c .known)) (written-is-read p x (signature p x) r) in
-    gave _ x output m last (ap (λ (y : Bytes). read (numbered set) y (length output)) b ∙ g) again
+    promise-gave _ x output m last (ap (λ (y : Bytes). read (numbered set) y (length output)) b ∙ g) again

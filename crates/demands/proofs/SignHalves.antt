@@ -11,6 +11,7 @@ use Rattle.sets.specs.declared.Chosen.the-variants.{Known}
 use Rattle.sets.specs.Sets.{numbered}
 use Rattle.sets.specs.Lengths.{longest}
 use Rattle.sets.proofs.Each.{known-set}
+use Rattle.answers.specs.declared.Refusal.the-variants.{Fine}
 use Rattle.answers.specs.Answers.{fine, Halves}
 use Rattle.answers.proofs.AnswersLaws.{fine-is, halves-of}
 use Rattle.challenge.specs.Blocks.{firstValues}
@@ -22,6 +23,7 @@ use Rattle.shape.proofs.RoundsLaws.{signature-most}
 use Rattle.shape.proofs.SetFacts.{longest≤}
 use Rattle.signer.specs.Sign as sign
 use Rattle.verifier.specs.Verify as verify
+use Rattle.demands.specs.Halves.{SignedIsNoLonger}
 use Rattle.demands.proofs.SigningLaws.{made, Passed, passed}
 use Rattle.demands.proofs.HonestRunsProof.{reread}
 
@@ -36,6 +38,16 @@ signed-most p g e s =
     reread (known-set (g .setNumber) p e) (g .keys) (g .layers) (g .constants) (g .secret) (g .public) (g .seeds) (g .message) es (s .pair)
     (s .seeds) (length-first p b (g .limit) (s .enough)) (first-small p b (g .limit)) in
     omega (arith, sound p signature (again .read) .exact, signature-most p (values p signature) (length-values p signature))
+
+pub signed-is-no-longer : SignedIsNoLonger
+unfolding SignedIsNoLonger sign.written sign.signatureBy sign.refusalFor
+signed-is-no-longer g p e = go (fine (sign.refusal g)) refl
+  where
+    go : (b : Bool) → fine (sign.refusal g) ≡ b → length (cond b (sign.signatureBy (numbered (g .setNumber)) g) []) ≤ longest p
+    go true f =
+        let none : sign.refusalFor (Known p) g ≡ Fine = rw e at (fine-is (sign.refusal g) f) in
+        rw e (signed-most p g e (passed p g none))
+    go false f = omega arith
 
 -- and far shorter than 2^32
 written-small : (g : sign.Given) → length (sign.written g) < 2 ^ 32

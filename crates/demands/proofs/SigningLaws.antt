@@ -77,7 +77,7 @@ answered-bytes g n room output s f m =
     rw (s .left-output) (ap (λ (x : Bytes). take n (x ++ drop (length x) (g .output))) e ∙ take-at signature _ n l)
 
 -- an answer below 2^32 refuses nothing
-pub length-alone : (g : Given) (number : ℕ) (room output : Bytes) → Signed g number room output → number < 2 ^ 32 → refusal g ≡ Fine
+pub length-alone : (g : Given) (n : ℕ) (room output : Bytes) → Signed g n room output → n < 2 ^ 32 → refusal g ≡ Fine
 length-alone g n room output s l = zero-is (refusal g) (omega (arith, s .answered))
   where
     zero-is : (r : Refusal) → number r ≡ 0 → r ≡ Fine

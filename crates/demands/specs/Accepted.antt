@@ -43,4 +43,4 @@ unfoldable pub VerifyingAnswersZero : Type 0
 VerifyingAnswersZero =
     (g : sign.Given) (back : ℕ) (room output : Bytes) → sign.Signed g back room output → back < 2 ^ 32
     → (limit : ℕ) (other : Bytes) → Enough g limit other
-    → (answer : ℕ) (left : Bytes) → verify.Verified (again g limit other (take back output)) answer left → answer ≡ 0
+    → (n : ℕ) (left : Bytes) → verify.Verified (again g limit other (take back output)) n left → n ≡ 0

@@ -1,6 +1,6 @@
--- Demand 1, from the promises to the exported functions: what each of the nine functions ensures is the promise of its call.
--- `Post` is a function's `ensures` as the prover reads it: a has the arguments in their order, r is the answer, and s has the
--- arguments again as they are at the end.
+-- Demand 1, from the promises to the exported functions: each of the nine asks nothing of its caller, and what it ensures is the
+-- promise of its call. `Pre` and `Post` are a function's `requires` and `ensures` as the prover reads them: a has the arguments in
+-- their order, r is the answer, and s has the arguments again as they are at the end.
 use denote.Ref.{now}
 use Rattle.hashing.specs.HashCall.{HashPromise}
 use Rattle.hashing.specs.SeedsCall.{SeedsPromise}
@@ -19,6 +19,19 @@ use Rattle.picnic.proofs.picnic_write.Reads as write
 use Rattle.picnic.proofs.picnic_sign.Reads as sign
 use Rattle.picnic.proofs.picnic_verify.Reads as verify
 
+-- whatever the arguments are, nothing more is asked
+pub record EveryCallAsksNothing : Type 1 where
+  pub hash : (κs : _) (a : _) → hash.Pre κs a
+  pub seeds : (κs : _) (a : _) → seeds.Pre κs a
+  pub encrypt : (κs : _) (a : _) → encrypt.Pre κs a
+  pub public-key : (κs : _) (a : _) → public-key.Pre κs a
+  pub challenge : (κs : _) (a : _) → challenge.Pre κs a
+  pub read : (κs : _) (a : _) → read.Pre κs a
+  pub write : (κs : _) (a : _) → write.Pre κs a
+  pub sign : (κs : _) (a : _) → sign.Pre κs a
+  pub verify : (κs : _) (a : _) → verify.Pre κs a
+
+-- what is ensured is the promise
 pub record EveryCallPromises : Type 1 where
   pub hash : (κs : _) (a : _) (r : _) (s : _) → hash.Post κs a r s
       → HashPromise (a .0) (now (a .1 .0)) (now (a .1 .1 .0)) r (now (s .1 .1 .0))

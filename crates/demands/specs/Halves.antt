@@ -1,8 +1,13 @@
--- The two halves of every answer: above the refusal's number, below the bytes written, fewer than 2^32.
-use Prim.Native.Nat.{ℕ}
+-- The two halves of every answer: above the refusal's number, below the bytes written, fewer than 2^32. And how many bytes signing
+-- writes at most.
+use mathlib.Core.Path.{_≡_}
+use Prim.Native.Nat.{ℕ, _≤_}
 use lib.ListN.{length}
 use Rattle.slices.specs.Slices.{Bytes}
+use Rattle.sets.specs.declared.Set.{Set}
+use Rattle.sets.specs.declared.Chosen.the-variants.{Known}
 use Rattle.sets.specs.Sets.{numbered}
+use Rattle.sets.specs.Lengths.{longest}
 use Rattle.answers.specs.Answers.{Halves}
 use Rattle.answers.specs.Outcome.{Outcome, refusalOf, writtenBy}
 use Rattle.hashing.specs.HashCall.{hashed, HashPromise}
@@ -39,3 +44,7 @@ pub record EveryAnswerHasHalves : Type 0 where
   pub sign : (g : sign.Given) (back : ℕ) (room output : Bytes)
       → sign.Signed g back room output → Halves back (sign.refusal g) (length (sign.written g))
   pub verify : (g : verify.Given) (back : ℕ) (room : Bytes) → verify.Verified g back room → Halves back (verify.refusal g) 0
+
+-- what signing writes is no longer than the longest signature of its set
+unfoldable pub SignedIsNoLonger : Type 0
+SignedIsNoLonger = (g : sign.Given) (set : Set) → numbered (g .setNumber) ≡ Known set → length (sign.written g) ≤ longest set

@@ -26,7 +26,7 @@ WrittenKeyIsNeverRefused =
     (g : sign.Given) (p before : Bytes) (back : ℕ) (after : Bytes)
     → PublicKeyPromise (g .setNumber) (g .keys) (g .layers) (g .constants) (g .secret) p before back after → back < 2 ^ 32
     → g .public ≡ take back after
-    → (answer : ℕ) (room output : Bytes) → sign.Signed g answer room output → ¬ (answer / 2 ^ 32 ≡ 7)
+    → (n : ℕ) (room output : Bytes) → sign.Signed g n room output → ¬ (n / 2 ^ 32 ≡ 7)
 
 -- picnic_seeds answers a length alone, for whatever keys and message: then for those seeds signing never answers 6, where room
 -- and output suffice
@@ -36,4 +36,4 @@ WrittenSeedsAreNeverRefused =
     → SeedsPromise (g .setNumber) secret public message before back after → back < 2 ^ 32
     → g .seeds ≡ take back after
     → ((set : Set) → numbered (g .setNumber) ≡ Known set → (roomLength set ≤ length (g .room)) × (longest set ≤ length (g .output)))
-    → (answer : ℕ) (room output : Bytes) → sign.Signed g answer room output → ¬ (answer / 2 ^ 32 ≡ 6)
+    → (n : ℕ) (room output : Bytes) → sign.Signed g n room output → ¬ (n / 2 ^ 32 ≡ 6)

@@ -14,14 +14,14 @@ use Rattle.shape.specs.RoundTrips.{AreBytes}
 -- start of any output that holds the longest
 unfoldable pub ReadThenWritten : Type 0
 ReadThenWritten =
-    (setNumber : ℕ) (s before form : Bytes) (n : ℕ) → AreBytes s → ReadPromise setNumber s before n form → n < 2 ^ 32
+    (setNumber : ℕ) (s before after : Bytes) (n : ℕ) → AreBytes s → ReadPromise setNumber s before n after → n < 2 ^ 32
     → (output last : Bytes) (m : ℕ) → ((set : Set) → numbered setNumber ≡ Known set → longest set ≤ length output)
-    → WritePromise setNumber (take n form) output m last → (m ≡ length s) × (last ≡ over s output)
+    → WritePromise setNumber (take n after) output m last → (m ≡ length s) × (last ≡ over s output)
 
 -- writing answers a length alone: then reading what it left answers the form's length and leaves the form, at the start of any
 -- output that holds an unpacked form
 unfoldable pub WrittenThenRead : Type 0
 WrittenThenRead =
-    (setNumber : ℕ) (x before signature : Bytes) (n : ℕ) → WritePromise setNumber x before n signature → n < 2 ^ 32
+    (setNumber : ℕ) (x before after : Bytes) (n : ℕ) → WritePromise setNumber x before n after → n < 2 ^ 32
     → (output last : Bytes) (m : ℕ) → ((set : Set) → numbered setNumber ≡ Known set → unpackedLength set ≤ length output)
-    → ReadPromise setNumber (take n signature) output m last → (m ≡ length x) × (last ≡ over x output)
+    → ReadPromise setNumber (take n after) output m last → (m ≡ length x) × (last ≡ over x output)

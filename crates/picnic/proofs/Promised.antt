@@ -1,5 +1,6 @@
--- What each exported function ensures is the promise of its call. `Post` is the function's `ensures` as the prover reads it: a has
--- the arguments in their order, r is the answer, and s has the arguments again as they are at the end.
+-- Each exported function asks nothing of its caller, and what it ensures is the promise of its call. `Pre` and `Post` are the
+-- function's `requires` and `ensures` as the prover reads them: a has the arguments in their order, r is the answer, and s has the
+-- arguments again as they are at the end.
 use denote.Ref.{now}
 use Rattle.hashing.specs.HashCall.{HashPromise}
 use Rattle.hashing.specs.SeedsCall.{SeedsPromise}
@@ -79,3 +80,30 @@ pub verify-promised : (κs : _) (a : _) (r : _) (s : _) → verify.Post κs a r 
     })
     r (now (s .1 .1 .1 .1 .1 .1 .1 .0))
 verify-promised κs a r s h = h
+
+pub hash-asks : (κs : _) (a : _) → hash.Pre κs a
+hash-asks κs a = tt
+
+pub seeds-asks : (κs : _) (a : _) → seeds.Pre κs a
+seeds-asks κs a = tt
+
+pub encrypt-asks : (κs : _) (a : _) → encrypt.Pre κs a
+encrypt-asks κs a = tt
+
+pub public-key-asks : (κs : _) (a : _) → public-key.Pre κs a
+public-key-asks κs a = tt
+
+pub challenge-asks : (κs : _) (a : _) → challenge.Pre κs a
+challenge-asks κs a = tt
+
+pub read-asks : (κs : _) (a : _) → read.Pre κs a
+read-asks κs a = tt
+
+pub write-asks : (κs : _) (a : _) → write.Pre κs a
+write-asks κs a = tt
+
+pub sign-asks : (κs : _) (a : _) → sign.Pre κs a
+sign-asks κs a = tt
+
+pub verify-asks : (κs : _) (a : _) → verify.Pre κs a
+verify-asks κs a = tt

@@ -1,9 +1,9 @@
 -- Laws of rows that are written one after the other, and of states that are put.
-use mathlib.Core.Path.{_≡_, refl, ap, _∙_, subst⁻¹}
+use mathlib.Core.Path.{_≡_, ap, _∙_, subst⁻¹}
 use mathlib.Core.Logic.{⊎-elim}
 use mathlib.Core.Bool.{false}
 use mathlib.Core.List.{List, [], _∷_}
-use Prim.Native.Nat.{ℕ, zero, suc, _+_, _*_, _≤_, _<_}
+use Prim.Native.Nat.{ℕ, _+_, _*_, _≤_, _<_}
 use native.Mathlib.Omega.{arith}
 use lib.ListN.{length, getD, set, replicate, length-set}
 use lib.Seq.{getD-set-same, getD-set-other}
@@ -11,6 +11,7 @@ use Rattle.bits.specs.Bits.{Bits, upTo}
 use Rattle.bits.specs.Words.{wordBits, listBits}
 use Rattle.bits.specs.Rows.{Rows, rowsOf}
 use Rattle.bits.proofs.BitsLaws.{upTo-out}
+use Rattle.bits.proofs.RowsLaws.{getD-zeros}
 use Rattle.bits.proofs.NumberLaws.{below}
 use Rattle.bits.proofs.WordsLaws.{zero-bits, list-past, four-words, holds-at}
 use Rattle.circuit.specs.Round.{Party, party0, party1, party2}
@@ -32,16 +33,11 @@ by-place i P same other k =
 
 -- ---- rows
 
-zero-at : (n k : ℕ) → _≡_ {A = ℕ} (getD (replicate n 0) k 0) 0
-zero-at zero k = refl
-zero-at (suc n) zero = refl
-zero-at (suc n) (suc k) = zero-at n k
-
 -- no row is written
 pub written-none : (m n : ℕ) (t : Rows) → Written m 0 t (replicate n 0)
 unfolding rowsOf
 written-none m n t = record {
-  rowed = record { narrow = λ k j l. ap (λ (x : ℕ). wordBits x j) (zero-at n k) ∙ zero-bits j; few = λ k l. zero-at n k };
+  rowed = record { narrow = λ k j l. ap (λ (x : ℕ). wordBits x j) (getD-zeros n k) ∙ zero-bits j; few = λ k l. getD-zeros n k };
   rows = λ k l. absurd (omega arith);
 }
 

@@ -26,7 +26,7 @@ unfolding P12 headerOf bytesOf bytes joined upTo pairBits place bit odd value wi
 p12 p q vs = each (λ (p : Set). take 1 (headerOf p (0 ∷ 1 ∷ 2 ∷ 0 ∷ vs)) ≡ 0x24 ∷ []) refl refl refl q
 
 pub last-header-byte : LastHeaderByte
-unfolding LastHeaderByte odd bit bitsOf value width joined all zeroPadded place valueAt values headerWrong readChecks reading first unless
+unfolding LastHeaderByte odd bit bitsOf value width joined all zeroPadded place valueAt values headerWrong readChecks reading first unless sizes roundsFields roundFields
 last-header-byte = (refl, (refl, refl))
 
 zero-rounds : (k : ℕ) → sizes (roundsFields l1 (replicate k 0)) ≡ k * 139

@@ -1,20 +1,15 @@
 -- Laws of parts of a byte string, and of strings one after the other.
 use mathlib.Core.Path.{_≡_, sym, ap, _∙_}
 use mathlib.Core.Logic.{⊎-elim}
-use mathlib.Core.List.{[], _∷_, _++_}
+use mathlib.Core.List.{_++_}
 use Prim.Native.Nat.{ℕ, zero, suc, _+_, _*_, _-_, _≤_, _<_}
 use native.Mathlib.Omega.{arith}
-use native.Mathlib.Nat.{suc-mul, zero-mul, zero-add, suc-add, mul-le-mul-right}
+use native.Mathlib.Nat.{suc-mul, zero-mul, mul-le-mul-right}
 use lib.ListN.{length, take, drop, length-append, length-drop}
-use lib.Seq.{take-nil, length-take-le, take-all, take-append-le, drop-append-le, drop-append-add, take-take, drop-drop, take-at, drop-at, take-add}
+use lib.Seq.{length-take-le, take-all, take-append-le, drop-append-le, drop-append-add, take-take, drop-drop, take-at, drop-at, take-add}
 use Rattle.slices.specs.Slices.{Bytes, part, put, joined}
-use Rattle.slices.proofs.SliceLaws.{put-put}
+use Rattle.slices.proofs.SliceLaws.{drop-take, put-put}
 use Rattle.bits.proofs.NumberLaws.{below}
-
-drop-take : (n k : ℕ) (s : Bytes) → drop n (take (n + k) s) ≡ take k (drop n s)
-drop-take zero k s = ap (λ (m : ℕ). take m s) (zero-add k)
-drop-take (suc n) k [] = rw suc-add (sym (take-nil k))
-drop-take (suc n) k (v ∷ s) = rw suc-add (drop-take n k s)
 
 -- ---- parts
 

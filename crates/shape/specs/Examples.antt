@@ -1,6 +1,5 @@
 -- 01's examples of a signature's bytes, held against the definitions.
 use mathlib.Core.Path.{_≡_}
-use mathlib.Core.Bool.{false}
 use mathlib.Core.List.{List, [], _∷_, _++_}
 use Prim.Native.Nat.{ℕ, _+_}
 use lib.ListN.{take, replicate}
@@ -11,7 +10,7 @@ use Rattle.answers.specs.declared.Refusal.the-variants.{Length, Header, Padding
 use Rattle.answers.specs.Outcome.{refused, gives}
 use Rattle.shape.specs.Header.{headerOf}
 use Rattle.shape.specs.Rounds.{signatureLength}
-use Rattle.shape.specs.Reading.{headerWrong, reading}
+use Rattle.shape.specs.Reading.{reading}
 
 -- P12, as 02 has it: values 0, 1, 2, 0 start a header with byte 24 hex
 unfoldable pub P12 : Type 0
@@ -21,10 +20,11 @@ P12 = (set : Set) → IsSet set → (vs : List ℕ) → take 1 (headerOf set (0 
 abbrev pub endingIn : ℕ → Bytes
 endingIn b = replicate 54 0 ++ (b ∷ replicate 32 0)
 
--- set 1, last header byte: 04 hex is fine, 01 or 0C is refused with 10
+-- set 1, last header byte: 04 hex is fine, so that of a header and a salt alone it is the length that is refused; 01 or 0C is
+-- refused with 10
 unfoldable pub LastHeaderByte : Type 0
 LastHeaderByte =
-    (headerWrong l1 (endingIn 0x04) ≡ false)
+    (reading l1 (endingIn 0x04) ≡ refused Length)
     × ((reading l1 (endingIn 0x01) ≡ refused Header) × (reading l1 (endingIn 0x0C) ≡ refused Header))
 
 -- set 1 lengths: 30,528 if all values are 0; 30,544 if one is not

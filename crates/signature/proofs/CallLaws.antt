@@ -5,7 +5,7 @@ use Prim.Native.Nat.{ℕ, _≤_, _<_}
 use native.Mathlib.Omega.{arith}
 use lib.ListN.{length}
 use borrow.Author.Tests.{lt-ltb, le-ltb}
-use Rattle.slices.specs.Slices.{Bytes, over}
+use Rattle.slices.specs.Slices.{Bytes}
 use Rattle.sets.specs.declared.Set.{Set}
 use Rattle.sets.specs.declared.Chosen.{Chosen}
 use Rattle.sets.specs.declared.Chosen.the-variants.{Known, Unknown}
@@ -13,8 +13,8 @@ use Rattle.sets.specs.Sets.{IsSet}
 use Rattle.sets.specs.Lengths.{longest, unpackedLength}
 use Rattle.answers.specs.declared.Refusal.{Refusal}
 use Rattle.answers.specs.declared.Refusal.the-variants.{Fine, NoSet, Room}
-use Rattle.answers.specs.Answers.{fine, first, answer}
-use Rattle.answers.specs.Outcome.{Outcome, refused, gives, answerOf, leftBy, Promise}
+use Rattle.answers.specs.Answers.{fine, first}
+use Rattle.answers.specs.Outcome.{refused, gives, Promise}
 use Rattle.answers.proofs.AnswersLaws.{fine-is}
 use Rattle.answers.proofs.OutcomeLaws.{set-unknown, set-known, unless-refused, unless-given, behind-holds, behind-passes}
 use Rattle.shape.specs.Header.{values, AreValues}
@@ -25,17 +25,6 @@ use Rattle.shape.proofs.ReadingLaws.{sound, whole}
 use Rattle.shape.proofs.RoundTripsProof.{are-values, length-valuesIn, length-signature}
 use Rattle.shape.proofs.RoundsLaws.{signature-most}
 use Rattle.shape.proofs.SetFacts.{longest≤}
-
--- ---- a promise, of a refusal and of bytes
-
-pub refuses : (o : Outcome) (out : Bytes) (a : ℕ) (r : Refusal) → o ≡ refused r → a ≡ answer r 0 → Promise o out a out
-unfolding answerOf leftBy
-refuses o out a r e h = record { answered = rw e h; left = rw e }
-
-pub gave : (o : Outcome) (out : Bytes) (a : ℕ) (vs last : Bytes) → o ≡ gives vs → a ≡ answer Fine (length vs) → last ≡ over vs out
-    → Promise o out a last
-unfolding answerOf leftBy
-gave o out a vs last e h l = record { answered = rw e h; left = rw e l }
 
 -- ---- for a set that is known
 

@@ -1,10 +1,11 @@
 -- `signature::read` meets its contract.
-use mathlib.Core.Path.{_≡_, sym, _∙_}
+use mathlib.Core.Path.{_≡_, refl, sym, _∙_}
 use Rattle.sets.specs.declared.Chosen.the-variants.{Known}
 use Rattle.sets.specs.Sets.{numbered}
 use Rattle.sets.proofs.Each.{known-set}
 use Rattle.answers.specs.declared.Refusal.the-variants.{NoSet}
-use Rattle.signature.proofs.CallLaws.{refuses, read-unknown, read-known}
+use Rattle.answers.proofs.OutcomeLaws.{promise-refused}
+use Rattle.signature.proofs.CallLaws.{read-unknown, read-known}
 use borrow.Author.Needs.{needs}
 use Rattle.signature.proofs.read.Statement.{statement}
 use Rattle.signature.proofs.read.Tie as tie
@@ -28,8 +29,8 @@ answer-requires c κs = search needs
 returns : tie.Need-returns
 returns c =
     let start = c .before .before .before .before .before .before in
-    refuses _ _ _ NoSet (read-unknown _ (start .args .s .now) _
-    (sym (c .before .before .before .numbered .ensures) ∙ c .before .enum-told .given .1)) (c .answer .ensures)
+    promise-refused _ NoSet _ _ _ (read-unknown _ (start .args .s .now) _
+    (sym (c .before .before .before .numbered .ensures) ∙ c .before .enum-told .given .1)) (c .answer .ensures) refl
 
 read-into-requires : tie.Need-read-into-requires
 read-into-requires c κs =

@@ -1,11 +1,12 @@
 -- `signature::read_into` meets its contract.
-use mathlib.Core.Path.{sym, ap, _∙_}
+use mathlib.Core.Path.{refl, sym, ap, _∙_}
 use native.Mathlib.Omega.{arith}
 use Rattle.answers.specs.declared.Refusal.the-variants.{Fine, Room}
 use Rattle.answers.specs.Answers.{answer}
 use Rattle.shape.proofs.RoundTripsProof.{length-form}
 use Rattle.shape.proofs.SetFacts.{unpacked≤}
-use Rattle.signature.proofs.CallLaws.{refuses, gave, read-small, read-refused, read-done, read-exact}
+use Rattle.answers.proofs.OutcomeLaws.{promise-refused, promise-given}
+use Rattle.signature.proofs.CallLaws.{read-small, read-refused, read-done, read-exact}
 use borrow.Author.Needs.{needs}
 use Rattle.signature.proofs.read_into.Statement.{statement}
 use Rattle.signature.proofs.read_into.Tie as tie
@@ -19,7 +20,7 @@ answer-requires c κs = search needs
 returns : tie.Need-returns
 returns c =
     let start = c .before .before .before .before .before in
-    refuses _ _ _ Room (read-small (start .args .p) (start .args .s .now) _ (omega arith)) (c .answer .ensures)
+    promise-refused _ Room _ _ _ (read-small (start .args .p) (start .args .s .now) _ (omega arith)) (c .answer .ensures) refl
 
 check-requires : tie.Need-check-requires
 check-requires c κs = search needs
@@ -58,7 +59,7 @@ returns-2 c =
     let p = start .args .p in
     let s = start .args .s .now in
     let exact = read-exact p s _ _ (check .check .ensures) (fine .fine .ensures) (test .if2 .taken) in
-    gave _ _ _ _ _ (read-done p s _ (omega arith) _ (check .check .ensures) (sym (fine .fine .ensures) ∙ test .if2 .taken))
+    promise-given _ _ _ _ _ (read-done p s _ (omega arith) _ (check .check .ensures) (sym (fine .fine .ensures) ∙ test .if2 .taken))
     (c .answer2 .ensures ∙ ap (answer Fine) (check .before .before .unpacked-length .ensures ∙ sym (length-form p s exact)))
     (c .before .before .before .unpack .ensures)
 
@@ -68,8 +69,8 @@ answer-requires-3 c κs = search needs
 returns-3 : tie.Need-returns-3
 returns-3 c =
     let start = c .before .before .before .before .before .before .before .before in
-    refuses _ _ _ _ (read-refused (start .args .p) (start .args .s .now) _ (omega arith) _ (c .before .before .before .check .ensures)
-    (sym (c .before .before .fine .ensures) ∙ c .before .if2 .left)) (c .answer3 .ensures)
+    promise-refused _ _ _ _ _ (read-refused (start .args .p) (start .args .s .now) _ (omega arith) _ (c .before .before .before .check .ensures)
+    (sym (c .before .before .fine .ensures) ∙ c .before .if2 .left)) (c .answer3 .ensures) refl
 
 pub read-into-spec : {M : Type 1} → statement M
 read-into-spec =

@@ -1,9 +1,10 @@
 -- `signature::write_into` meets its contract.
-use mathlib.Core.Path.{sym, ap, _∙_}
+use mathlib.Core.Path.{refl, sym, ap, _∙_}
 use native.Mathlib.Omega.{arith}
 use Rattle.answers.specs.declared.Refusal.the-variants.{Fine, Room}
 use Rattle.answers.specs.Answers.{answer}
-use Rattle.signature.proofs.CallLaws.{refuses, gave, write-small, write-refused, write-done, write-passed, signature-small}
+use Rattle.answers.proofs.OutcomeLaws.{promise-refused, promise-given}
+use Rattle.signature.proofs.CallLaws.{write-small, write-refused, write-done, write-passed, signature-small}
 use borrow.Author.Needs.{needs}
 use Rattle.signature.proofs.write_into.Statement.{statement}
 use Rattle.signature.proofs.write_into.Tie as tie
@@ -17,7 +18,7 @@ answer-requires c κs = search needs
 returns : tie.Need-returns
 returns c =
     let start = c .before .before .before .before .before in
-    refuses _ _ _ Room (write-small (start .args .p) (start .args .x .now) _ (omega arith)) (c .answer .ensures)
+    promise-refused _ Room _ _ _ (write-small (start .args .p) (start .args .x .now) _ (omega arith)) (c .answer .ensures) refl
 
 check-form-requires : tie.Need-check-form-requires
 check-form-requires c κs = search needs
@@ -56,7 +57,7 @@ same-length c = search needs
 returns-2 : tie.Need-returns-2
 returns-2 c =
     let start = c .before .before .before .before .before .before .before .before .before .before .before .before in
-    gave _ _ _ _ _ (write-done (start .args .p) (start .args .x .now) _ (omega arith) _
+    promise-given _ _ _ _ _ (write-done (start .args .p) (start .args .x .now) _ (omega arith) _
     (c .before .before .before .before .before .before .before .check-form .ensures)
     (sym (c .before .before .before .before .before .before .fine .ensures) ∙ c .before .before .before .before .before .if2 .taken))
     (c .answer2 .ensures ∙ ap (answer Fine) (c .before .before .before .pack .ensures .0)) (c .before .before .before .pack .ensures .1)
@@ -67,8 +68,8 @@ answer-requires-3 c κs = search needs
 returns-3 : tie.Need-returns-3
 returns-3 c =
     let start = c .before .before .before .before .before .before .before .before in
-    refuses _ _ _ _ (write-refused (start .args .p) (start .args .x .now) _ (omega arith) _
-    (c .before .before .before .check-form .ensures) (sym (c .before .before .fine .ensures) ∙ c .before .if2 .left)) (c .answer3 .ensures)
+    promise-refused _ _ _ _ _ (write-refused (start .args .p) (start .args .x .now) _ (omega arith) _
+    (c .before .before .before .check-form .ensures) (sym (c .before .before .fine .ensures) ∙ c .before .if2 .left)) (c .answer3 .ensures) refl
 
 pub write-into-spec : {M : Type 1} → statement M
 write-into-spec =
