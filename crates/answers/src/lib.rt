@@ -1,4 +1,5 @@
 // What a host gets back: refusals and their numbers, the answer of a call, and the conditions that several calls check.
+#![tactic(auto)]
 ghost use Rattle.std.specs.Prelude.{◌≡◌};
 ghost use Rattle.sets.specs.Sets.{IsSet};
 ghost use Rattle.answers.specs.Answers.{number, fine, answer};
@@ -7,7 +8,7 @@ ghost use Rattle.answers.specs.Conditions.{tables_other, blocks_other, keys_othe
 use sets::Set;
 
 // What 01's table of numbers says, case by case.
-#[derive(Drop)]
+#[derive(Clone, Copy)]
 pub enum Refusal {
     // Done, or valid.
     Fine,

@@ -1,4 +1,5 @@
 // The challenge: blocks hashed one from the other, and values read from their pairs of bits until place T is filled.
+#![tactic(auto)]
 ghost use Rattle.std.specs.Prelude.{◌≡◌, ◌∷◌, ◌*◌, ◌≤◌, ◌<◌, length, take};
 ghost use Rattle.slices.specs.Slices.{Bytes};
 ghost use Rattle.sets.specs.Sets.{IsSet};
@@ -13,7 +14,7 @@ use sets::{Chosen, Set};
 use shake::Sponge;
 
 // Whether place T is filled.
-#[derive(Drop)]
+#[derive(Clone, Copy)]
 pub enum Filled {
     Full,
     Short,

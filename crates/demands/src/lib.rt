@@ -1,1 +1,2 @@
 // Statements and proofs only: what the calls together are worth.
+#![tactic(auto)]

@@ -1,4 +1,5 @@
 // What Picnic hashes, over the SHAKE of a set, and the two calls that only hash.
+#![tactic(auto)]
 ghost use Rattle.std.specs.Prelude.{◌≡◌, [], ◌∷◌, ◌++◌, ◌<◌, length};
 ghost use Rattle.sets.specs.Sets.{IsSet};
 ghost use Rattle.sets.specs.Lengths.{seeds_length};

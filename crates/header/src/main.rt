@@ -1,5 +1,6 @@
 // Reads a signature of set 1 on standard input and prints the values of its header, one digit each, as a reader finds them bit
 // by bit. Of input that is shorter than a header it prints the values that are there.
+#![tactic(auto)]
 use libc::{STDIN_FILENO, STDOUT_FILENO};
 use sets::Set;
 

@@ -1,6 +1,7 @@
 // Reads a signature of set 1 on standard input and prints its layout: the set and the length, then how many values are 0, 1
 // and 2; or the number with which it is refused. A buffer holds more than the longest signature, so that input that it cuts
 // off is refused with the same number as the whole of it.
+#![tactic(auto)]
 ghost use Rattle.std.specs.Prelude.{◌≡◌};
 ghost use Rattle.layout.specs.Counts.{how_many};
 

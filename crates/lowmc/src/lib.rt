@@ -1,4 +1,5 @@
 // LowMC over lent tables: products, S-boxes, a round, the encryption, a public key. No branch and no index depends on a secret bit.
+#![tactic(auto)]
 ghost use Rattle.std.specs.Prelude.{◌≡◌, ◌+◌, ◌*◌, ◌%◌, ◌≤◌, ◌<◌, length};
 ghost use Rattle.slices.specs.Slices.{over};
 ghost use Rattle.bits.specs.Bits.{◌⊕◌, Agree, up_to, from};
@@ -106,21 +107,21 @@ pub fn product(p: Set, table: &[u8], k: usize, v: Block) -> Block
 }
 
 // Two blocks, to be multiplied by the same matrices.
-#[derive(Drop)]
+#[derive(Clone, Copy)]
 pub struct Pair {
     pub a: Block,
     pub b: Block,
 }
 
 // Two words.
-#[derive(Drop)]
+#[derive(Clone, Copy)]
 struct Two {
     a: u64,
     b: u64,
 }
 
 // Two parities.
-#[derive(Drop)]
+#[derive(Clone, Copy)]
 struct Parities {
     a: u32,
     b: u32,
@@ -237,7 +238,7 @@ fn firsts(s: usize) -> u64
 }
 
 // The bits a, b, c of S-boxes, each at its S-box's first place.
-#[derive(Drop)]
+#[derive(Clone, Copy)]
 struct Lanes {
     a: u64,
     b: u64,

@@ -1,4 +1,5 @@
 // The parts of a signature in place: values, lengths, padding, where each round's parts stand, and writing a round's parts.
+#![tactic(auto)]
 ghost use Rattle.std.specs.Prelude.{◌≡◌, ◌++◌, ◌+◌, ◌*◌, ◌/◌, ◌%◌, ◌≤◌, ◌<◌, length, drop};
 ghost use Rattle.slices.specs.Slices.{put, over};
 ghost use Rattle.bits.specs.Bits.{from};
@@ -17,7 +18,7 @@ use answers::Refusal;
 use sets::Set;
 
 // Where a round's parts stand; next is where the next round starts.
-#[derive(Drop)]
+#[derive(Clone, Copy)]
 pub struct Parts {
     pub commitment: usize,
     pub transcript: usize,
@@ -28,14 +29,14 @@ pub struct Parts {
 }
 
 // A round, and where it starts.
-#[derive(Drop)]
+#[derive(Clone, Copy)]
 pub struct Cursor {
     pub round: usize,
     pub at: usize,
 }
 
 // What is found at a round, and the cursor behind it.
-#[derive(Drop)]
+#[derive(Clone, Copy)]
 pub struct Here {
     pub value: u8,
     pub parts: Parts,

@@ -1,4 +1,5 @@
 // The calls that hosts make: numbers and byte slices in, one 64-bit number out. Each forwards to the crate that has its code and proof.
+#![tactic(auto)]
 ghost use Rattle.hashing.specs.HashCall.{HashPromise};
 ghost use Rattle.hashing.specs.SeedsCall.{SeedsPromise};
 ghost use Rattle.challenge.specs.ChallengeCall.{ChallengePromise};

@@ -1,6 +1,7 @@
 // A reader for Rattle callers: it holds the lent signature and its bit position. Its methods are thin: each leaves the work to
 // cursor functions, which take the slice and the position by value. No function asks anything of its caller: byte and bit of a
 // position are held apart, so that no number overflows, however long the slice is and wherever a caller puts the position.
+#![tactic(auto)]
 ghost use Rattle.std.specs.Prelude.{◌≡◌, ◌+◌, ◌*◌, length};
 ghost use Rattle.bits.specs.Bytes.{width};
 ghost use Rattle.reader.specs.Reading.{bit_number, within, next_bit, after_bit, follow, next_bytes, after_bytes, digit_of};
@@ -9,7 +10,7 @@ ghost use Rattle.reader.specs.Promises.{Started, BitRead, BytesRead, ValueRead};
 use slices::copy;
 
 // The bit with the number 8 * byte + bit, counted from a slice's start. Here bit stays below 8; a caller may make any two numbers.
-#[derive(Drop)]
+#[derive(Clone, Copy)]
 pub struct Position {
     pub byte: usize,
     pub bit: usize,
@@ -22,7 +23,7 @@ pub struct Reader<'a> {
 }
 
 // What the next bit is, or that there is none.
-#[derive(Drop)]
+#[derive(Clone, Copy)]
 pub enum Next {
     Bit(bool),
     End,

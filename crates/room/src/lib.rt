@@ -1,4 +1,5 @@
 // What signing and verifying share: the bytes of a party, and the working room that a round's output shares and commitments go into.
+#![tactic(auto)]
 ghost use Rattle.std.specs.Prelude.{◌≡◌, ◌++◌, ◌+◌, ◌*◌, ◌≤◌, ◌<◌, length, take};
 ghost use Rattle.slices.specs.Slices.{Bytes, put};
 ghost use Rattle.bits.specs.Bytes.{bytes_of};

@@ -1,5 +1,6 @@
 // The engine: LowMC's circuit on words, simulated for three parties and recomputed for two.
 // A row of gates, of a tape or of a transcript, stands at the top of a word. No branch and no index depends on a secret.
+#![tactic(auto)]
 ghost use Rattle.std.specs.Prelude.{◌≡◌, cond, ℕ, ◌*◌, ◌≤◌, ◌<◌, length};
 ghost use Rattle.slices.specs.Slices.{Bytes};
 ghost use Rattle.bits.specs.Bits.{◌⊕◌, zeros, up_to, from};
@@ -23,7 +24,7 @@ use lowmc::Pair;
 use sets::Set;
 
 // A block for each party.
-#[derive(Drop)]
+#[derive(Clone, Copy)]
 pub struct Shares {
     pub a: Block,
     pub b: Block,
@@ -31,7 +32,7 @@ pub struct Shares {
 }
 
 // A row for each party.
-#[derive(Drop)]
+#[derive(Clone, Copy)]
 pub struct Gates {
     pub a: u64,
     pub b: u64,

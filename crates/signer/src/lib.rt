@@ -1,5 +1,6 @@
 // Signing: checks, a pass over the rounds that fills the room, the challenge, and a pass that writes the signature.
 // A round is simulated anew for the second pass: nothing larger than its tapes and transcripts is kept. No branch and no index depends on a secret.
+#![tactic(auto)]
 ghost use Rattle.std.specs.Prelude.{◌≡◌, cond, ◌++◌, ℕ, ◌+◌, ◌*◌, ◌≤◌, ◌<◌, eqb, length, take, replicate};
 ghost use Rattle.slices.specs.Slices.{Bytes, put, over, equal};
 ghost use Rattle.bits.specs.Bytes.{bits_of, bytes_of};

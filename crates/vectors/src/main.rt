@@ -1,10 +1,11 @@
 // Runs published vectors against the library and prints, for each file, how many cases it has and how many agree.
+#![tactic(auto)]
 ghost use Rattle.std.specs.Prelude.{◌≡◌, ◌+◌, ◌^◌, ◌≤◌, ◌<◌, length};
 
 use libc::STDOUT_FILENO;
 
 // How many cases a file has, and how many of them agree.
-#[derive(Drop)]
+#[derive(Clone, Copy)]
 struct Tally {
     cases: u64,
     agree: u64,

@@ -1,4 +1,5 @@
 // Verifying: checks, the rounds recomputed into the room, the challenge, and the verdict.
+#![tactic(auto)]
 ghost use Rattle.std.specs.Prelude.{◌≡◌, ℕ, ◌+◌, ◌*◌, ◌≤◌, ◌<◌, length, take};
 ghost use Rattle.slices.specs.Slices.{Bytes, part, put, over, cleared, equal};
 ghost use Rattle.bits.specs.Bits.{◌⊕◌};
