@@ -1,5 +1,6 @@
 // The parameter sets: the numbers of a set belong to the set and are asked of it by name.
 #![tactic(auto)]
+
 ghost use Rattle.std.specs.Prelude.{◌≡◌};
 ghost use Rattle.sets.specs.Sets.{l1, l3, l5, IsSet, numbered};
 ghost use Rattle.sets.specs.Lengths.{w, seed_width, transcript_length, header_length, keys_length, layers_length, constants_length, public_length, seeds_length, room_length, round_least, round_most, longest, unpacked_length};

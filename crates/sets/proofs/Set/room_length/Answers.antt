@@ -1,0 +1,18 @@
+-- `sets::Set::room_length` meets its contract.
+use Prim.Native.Nat.{◌*◌}
+use Rattle.bits.specs.Bytes.{width}
+use Rattle.sets.specs.declared.Set.{Set}
+use Rattle.sets.proofs.Each.{fits_set}
+use Rattle.sets.specs.Lengths.{room_length}
+use borrow.Author.Rules.{rules}
+use Rattle.sets.proofs.Set.room_length.Goals as goal
+
+pub overflow_mul-result : goal.overflow_mul-result
+overflow_mul-result c = fits_set (λ (p : Set). 9 * p.t) tt tt tt c.requires
+
+pub overflow_mul-result-2 : goal.overflow_mul-result-2
+unfolding width
+overflow_mul-result-2 c = rw c.width.ensures (fits_set (λ (p : Set). room_length p) tt tt tt c.requires)
+
+pub returns : goal.returns
+returns c = rw c.width.ensures
