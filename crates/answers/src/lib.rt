@@ -1,5 +1,6 @@
 // What a host gets back: refusals and their numbers, the answer of a call, and the conditions that several calls check.
 #![tactic(auto)]
+
 ghost use Rattle.std.specs.Prelude.{◌≡◌};
 ghost use Rattle.sets.specs.Sets.{IsSet};
 ghost use Rattle.answers.specs.Answers.{number, fine, answer};

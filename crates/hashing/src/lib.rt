@@ -63,24 +63,24 @@ pub fn tape(p: Set, seed: &[u8], salt: &[u8], t: u16, j: u16, output: &mut [u8])
 }
 
 // The digest of a view fills output: d is H_4 of the seed.
-fn view_digest(p: Set, d: &[u8], share: &[u8], transcript: &[u8], res: &[u8], output: &mut [u8])
+fn view_digest(p: Set, d: &[u8], share: &[u8], transcript: &[u8], output_share: &[u8], output: &mut [u8])
     requires { IsSet p × (length output.old ≡ p.digest) }
-    ensures { output.new ≡ h p 0 (d.now ++ (share.now ++ (transcript.now ++ res.now))) }
+    ensures { output.new ≡ h p 0 (d.now ++ (share.now ++ (transcript.now ++ output_share.now))) }
 {
     let s = prefixed(p, 0).absorb(d).absorb(share);
-    let u = s.absorb(transcript).absorb(res).pad();
+    let u = s.absorb(transcript).absorb(output_share).pad();
     u.squeeze(output);
 }
 
 // The commitment to a party's seed, input share, transcript and output share fills output.
-pub fn commit(p: Set, seed: &[u8], share: &[u8], transcript: &[u8], res: &[u8], output: &mut [u8])
+pub fn commit(p: Set, seed: &[u8], share: &[u8], transcript: &[u8], output_share: &[u8], output: &mut [u8])
     requires { IsSet p × (length output.old ≡ p.digest) }
-    ensures { output.new ≡ commitment p seed.now share.now transcript.now res.now }
+    ensures { output.new ≡ commitment p seed.now share.now transcript.now output_share.now }
 {
     let n = p.digest;
     let mut d = [0u8; 64];
     digest(p, 4, seed, &mut d[..n]);
-    view_digest(p, &d[..n], share, transcript, res, output);
+    view_digest(p, &d[..n], share, transcript, output_share, output);
 }
 
 // The derived seeds fill output.
