@@ -1,5 +1,6 @@
 // Keccak-f[1600], the permutation of FIPS 202: 25 lanes of 64 bits, the lane A[x, y] at 5 * y + x.
 #![tactic(auto)]
+
 ghost use Rattle.std.specs.Prelude.{◌≡◌, ◌<◌};
 ghost use Rattle.keccak.specs.Lanes.{theta, rho, pi, chi, round_constant, permuted};
 

@@ -98,13 +98,13 @@ pub fn transcribed(p: Set, said: Strip) -> [u8; 143]
 }
 
 // The commitment to a seed, an input share, a transcript and an output share, at the start of an array.
-pub fn committed(p: Set, seed: &[u8], share: &[u8], transcript: &[u8], res: &[u8]) -> [u8; 64]
+pub fn committed(p: Set, seed: &[u8], share: &[u8], transcript: &[u8], output_share: &[u8]) -> [u8; 64]
     requires { IsSet p }
-    ensures { take p.digest result ≡ commitment p seed.now share.now transcript.now res.now }
+    ensures { take p.digest result ≡ commitment p seed.now share.now transcript.now output_share.now }
 {
     let n = p.digest;
     let mut d = [0u8; 64];
-    hashing::commit(p, seed, share, transcript, res, &mut d[..n]);
+    hashing::commit(p, seed, share, transcript, output_share, &mut d[..n]);
     d
 }
 

@@ -213,15 +213,15 @@ fn play(
 }
 
 // The commitment to a seed and what a party had, at the start of an array.
-fn commit_party(p: Set, seed: &[u8], share: Block, said: [u8; 143], res: Block) -> [u8; 64]
+fn commit_party(p: Set, seed: &[u8], share: Block, said: [u8; 143], output_share: Block) -> [u8; 64]
     requires { IsSet p }
     ensures { take p.digest result
-        ≡ commitment p seed.now (bytes_of p.n (block_bits share)) (take (transcript_length p) said) (bytes_of p.n (block_bits res)) }
+        ≡ commitment p seed.now (bytes_of p.n (block_bits share)) (take (transcript_length p) said) (bytes_of p.n (block_bits output_share)) }
 {
     let w = p.width();
     let m = p.transcript();
     let x = room::stored(p, share);
-    let y = room::stored(p, res);
+    let y = room::stored(p, output_share);
     room::committed(p, seed, &x[..w], &said[..m], &y[..w])
 }
 

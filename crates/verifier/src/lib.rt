@@ -203,13 +203,13 @@ fn commit_first(p: Set, seed: &[u8], share: &[u8], again: Again) -> [u8; 64]
 }
 
 // The commitment of party e+1, whose transcript the signature shows, at the start of an array.
-fn commit_second(p: Set, seed: &[u8], share: &[u8], transcript: &[u8], res: Block) -> [u8; 64]
+fn commit_second(p: Set, seed: &[u8], share: &[u8], transcript: &[u8], output_share: Block) -> [u8; 64]
     requires { IsSet p }
     ensures { take p.digest result
-        ≡ commitment p seed.now share.now transcript.now (bytes_of p.n (block_bits res)) }
+        ≡ commitment p seed.now share.now transcript.now (bytes_of p.n (block_bits output_share)) }
 {
     let w = p.width();
-    let y = room::stored(p, res);
+    let y = room::stored(p, output_share);
     room::committed(p, seed, share, transcript, &y[..w])
 }
 

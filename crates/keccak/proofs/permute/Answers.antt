@@ -1,0 +1,26 @@
+-- `keccak::permute` meets its contract. The invariant: i rounds are done.
+use mathlib.Core.Path.{◌≡◌}
+use Prim.Native.Nat.{◌-◌, ◌≤◌}
+use native.Mathlib.Omega.{arith}
+use borrow.Author.Rules.{rules}
+use Rattle.keccak.specs.Lanes.{rounds, permuted}
+use Rattle.keccak.proofs.LanesLaws.{rounds-none, rounds-more}
+use Rattle.keccak.proofs.permute.Goals as goal
+
+pub loop-i-init : goal.loop-i-init
+loop-i-init c = (omega arith, rounds-none _)
+
+pub loop-i-preserved : goal.loop-i-preserved
+loop-i-preserved c =
+    let x = c in
+    let r = x in
+    let t = r in
+    let l = t.loop-i in
+    (omega arith, rounds-more _ _ _ _ _ l.i _ l.invariant.1 t.theta.ensures r.rho_pi.ensures x.chi-s.ensures c.constant.ensures)
+
+pub returns : goal.returns
+unfolding permuted
+returns c =
+    let l = c.loop-i in
+    let e : l.i ≡ 24 = omega arith in
+    rw e at l.invariant.1
