@@ -1,5 +1,6 @@
 // LowMC over lent tables: products, S-boxes, a round, the encryption, a public key. No branch and no index depends on a secret bit.
 #![tactic(auto)]
+
 ghost use Rattle.std.specs.Prelude.{◌≡◌, ◌+◌, ◌*◌, ◌%◌, ◌≤◌, ◌<◌, length};
 ghost use Rattle.slices.specs.Slices.{over};
 ghost use Rattle.bits.specs.Bits.{◌⊕◌, Agree, up_to, from};

@@ -1,5 +1,6 @@
 // SHAKE128 and SHAKE256: the sponge over Keccak-f[1600] as a value. Absorb, pad and squeeze each hand back the next sponge.
 #![tactic(auto)]
+
 mod state;
 
 ghost use Rattle.std.specs.Prelude.{◌≡◌, [], ◌∷◌, ◌/◌, ◌%◌, ◌<◌, min, length};

@@ -1,0 +1,34 @@
+-- `lowmc::encrypt` meets its contract.
+use Rattle.bits.specs.Bits.{Bits}
+use Rattle.bits.specs.Words.{block_bits}
+use Rattle.sets.specs.Lengths as lengths
+use Rattle.lowmc.proofs.LentLaws.{block_small, output-small}
+use Rattle.lowmc.proofs.EncryptedLaws.{stored_of, start-written}
+use borrow.Author.Rules.{rules}
+use Rattle.lowmc.proofs.encrypt.Goals as goal
+
+pub load-key-requires : goal.load-key-requires
+load-key-requires c =
+    let s = c in
+    block_small s.requires.0.is_set s.args.secret.now s.requires.1
+
+pub load-requires : goal.load-requires
+load-requires c =
+    let s = c in
+    block_small s.requires.0.is_set s.args.block.now s.requires.2
+
+pub store-requires : goal.store-requires
+store-requires c =
+    let s = c in
+    let w = c.width-w in
+    output-small s.requires.0.is_set w.result s.args.output.now w.ensures
+
+pub returns : goal.returns
+returns c =
+    let a = c.args in
+    let h = c.requires in
+    let w = c.width-w in
+    let x : Bits = block_bits c.encryption-x.result in
+    start-written a.output.now _ _ w.result (lengths.w a.p) x w.ensures h.3 c.store.ensures
+    (stored_of a.p a.keys.now a.layers.now a.constants.now h.0.is_set a.secret.now a.block.now h.2 _ _ x
+    c.load-key.ensures c.load.ensures c.encryption-x.ensures)

@@ -1,0 +1,18 @@
+-- `lowmc::right` meets its contract.
+use mathlib.Core.Path.{◌≡◌}
+use lib.ListN.{length, get_or}
+use Rattle.lowmc.proofs.LentLaws.{in_word}
+use Rattle.lowmc.proofs.SboxLaws.{right_word, right_block}
+use borrow.Author.Rules.{rules}
+use Rattle.lowmc.proofs.right.Goals as goal
+
+pub split-l-requires : goal.split-l-requires
+split-l-requires c = in_word c.requires
+
+pub returns : goal.returns
+returns c =
+    let a = c.args in
+    let l = c.split-l in
+    let n : length a.x.words ≡ 4 = search rules in
+    right_block a.p.s (in_word c.requires) a.x.words n _
+    (right_word a.p.s (get_or a.x.words 0 0) l.result l.ensures (search rules) (search rules) (search rules))

@@ -1,0 +1,18 @@
+-- `shake::give` meets its contract. The invariant: the first i bytes are given.
+use mathlib.Core.Path.{◌≡◌, refl, ◌∙◌}
+use Prim.Native.Nat.{◌-◌, ◌≤◌}
+use native.Mathlib.Omega.{arith}
+use borrow.Author.Rules.{rules}
+use lib.ListN.{length}
+use Rattle.slices.specs.Slices.{put}
+use Rattle.shake.specs.Sponge.{sponge, squeezed, given}
+use Rattle.shake.proofs.StateLaws.{length-bytes_at, length-put-bytes_at}
+use Rattle.shake.proofs.SpongeLaws.{squeezed-none, squeezed_block, put-given-none, put-given, put-given-all}
+use Rattle.shake.proofs.give.Given as goal
+
+abbrev pub invariant-loop-i : goal.invariant-loop-i
+invariant-loop-i l = (l.i ≤ length l.out) × (length l.out ≡ length l.initial.out) × (l.j ≤ l.rate) × (sponge l.rate l.a l.j ≡ squeezed (sponge l.rate l.initial.a l.at) l.i)
+    × (l.out ≡ put l.initial.out 0 (given (sponge l.rate l.initial.a l.at) l.i))
+
+abbrev pub decreases-loop-i : goal.decreases-loop-i
+decreases-loop-i l = length l.out - l.i

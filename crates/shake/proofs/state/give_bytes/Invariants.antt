@@ -1,0 +1,17 @@
+-- `shake::state::give_bytes` meets its contract. The invariant: q bytes are stored.
+use mathlib.Core.Path.{◌≡◌, refl, ◌∙◌}
+use Prim.Native.Nat.{◌+◌, ◌-◌, ◌≤◌}
+use native.Mathlib.Omega.{arith}
+use borrow.Author.Rules.{rules}
+use lib.ListN.{length, length-set}
+use Rattle.slices.specs.Slices.{put}
+use Rattle.slices.proofs.SliceLaws.{put_one}
+use Rattle.shake.specs.Shake.{bytes_at}
+use Rattle.shake.proofs.StateLaws.{put-bytes_at-none, put-bytes_at, bytes_at-one}
+use Rattle.shake.proofs.state.give_bytes.Given as goal
+
+abbrev pub invariant-loop-q : goal.invariant-loop-q
+invariant-loop-q l = (l.q ≤ l.n) × (length l.out ≡ length l.initial.out) × (l.out ≡ put l.initial.out l.i (bytes_at l.a l.j l.q))
+
+abbrev pub decreases-loop-q : goal.decreases-loop-q
+decreases-loop-q l = l.n - l.q

@@ -1,0 +1,22 @@
+-- `shake::take_byte` meets its contract.
+use mathlib.Core.Path.{sym, ap, ◌∙◌}
+use Prim.Native.Nat.{◌+◌}
+use borrow.Author.Rules.{rules}
+use Rattle.keccak.specs.Lanes.{permuted}
+use Rattle.shake.specs.Sponge.{sponge}
+use Rattle.shake.proofs.SpongeLaws.{absorbed-last, absorbed-next}
+use Rattle.shake.proofs.take_byte.Goals as goal
+
+pub returns-then-at-rate : goal.returns-then-at-rate
+returns-then-at-rate c =
+    let t = c in
+    let p = t in
+    let g = p.args in
+    ap (λ a. sponge g.rate a 0) (c.permute.ensures ∙ ap permuted p.add_byte.ensures)
+    ∙ sym (absorbed-last g.rate g.a.now g.at g.b t.if-at-rate.true)
+
+pub returns : goal.returns
+returns c =
+    let p = c in
+    let g = p.args in
+    ap (λ a. sponge g.rate a (g.at + 1)) p.add_byte.ensures ∙ sym (absorbed-next g.rate g.a.now g.at g.b c.if-at-rate.false)
