@@ -17,37 +17,33 @@ use Rattle.lowmc.proofs.CallsLaws.{passed, lent, encrypt_no_set, encrypt-refused
 use borrow.Author.Rules.{rules}
 use Rattle.lowmc.proofs.encrypt_call.Goals as goal
 
--- the number names the set that the code goes on with
-chosen_is : (c : tie.After-chosen) → numbered c.before.before.before.before.before.before.before.before.before.args.set ≡ Known c.chosen.given.0.0
-chosen_is c = sym c.before.before.numbered.ensures ∙ c.chosen.given.1
-
 pub returns-in_default : goal.returns-in_default
-returns-in_default c = promise_refused _ NoSet _ _ _ (encrypt_no_set _ _ _ _ _ _ _ (sym c.numbered-chosen.ensures ∙ c.enum_told-1.given.1)) c.answer.ensures refl
+returns-in_default c = promise_refused _ NoSet _ _ _ (encrypt_no_set _ _ _ _ _ _ _ (sym c.numbered-chosen.ensures ∙ c.in_default.is)) c.answer.ensures refl
 
 pub width-n-requires : goal.width-n-requires
-width-n-requires c = known_set c.args.set _ (chosen_is c)
+width-n-requires c = known_set c.args.set _ (sym c.numbered-chosen.ensures ∙ c.in-Known.is)
 
 pub refusal-why-requires : goal.refusal-why-requires
-refusal-why-requires c = known_set c.args.set _ (chosen_is c)
+refusal-why-requires c = known_set c.args.set _ (sym c.numbered-chosen.ensures ∙ c.in-Known.is)
 
 pub returns-then-not-fine : goal.returns-then-not-fine
 returns-then-not-fine c =
     promise_refused _ _ _ _ _
-    (encrypt-refused _ c.args.keys.now c.args.layers.now c.args.constants.now c.args.secret.now c.args.block.now _ _ (chosen_is c) _ _ c.refusal-why.ensures c.width-n.ensures (sym c.fine.ensures ∙ not-true _ c.if-not-fine.true))
+    (encrypt-refused _ c.args.keys.now c.args.layers.now c.args.constants.now c.args.secret.now c.args.block.now _ _ (sym c.numbered-chosen.ensures ∙ c.in-Known.is) _ _ c.refusal-why.ensures c.width-n.ensures (sym c.fine.ensures ∙ c.if-not-fine.true))
     c.answer-then-not-fine.ensures refl
 
 pub encrypt-requires : goal.encrypt-requires
 encrypt-requires c =
-    let h = passed _ _ _ _ _ _ _ _ _ c.refusal-why.ensures (sym c.fine.ensures ∙ not-false _ c.if-not-fine.false) in
-    (lent _ c.args.keys.now c.args.layers.now c.args.constants.now c.args.secret.now c.args.block.now _ _ (known_set c.args.set _ (chosen_is c)) h, h.secret-length, h.block_length, subst (λ (k : ℕ). k ≤ length c.args.output.now) c.width-n.ensures h.enough)
+    let h = passed _ _ _ _ _ _ _ _ _ c.refusal-why.ensures (sym c.fine.ensures ∙ c.if-not-fine.false) in
+    (lent _ c.args.keys.now c.args.layers.now c.args.constants.now c.args.secret.now c.args.block.now _ _ (known_set c.args.set _ (sym c.numbered-chosen.ensures ∙ c.in-Known.is)) h, h.secret-length, h.block_length, subst (λ (k : ℕ). k ≤ length c.args.output.now) c.width-n.ensures h.enough)
 
 pub overflow_cast-n : goal.overflow_cast-n
 unfolding width
-overflow_cast-n c = omega (arith, c.width-n.ensures, most w 32 tt tt tt (known_set c.args.set _ (chosen_is c)))
+overflow_cast-n c = omega (arith, c.width-n.ensures, most w 32 tt tt tt (known_set c.args.set _ (sym c.numbered-chosen.ensures ∙ c.in-Known.is)))
 
 pub returns : goal.returns
 returns c =
     promise_given _ _ _ _ _
-    (encrypt-given _ c.args.keys.now c.args.layers.now c.args.constants.now c.args.secret.now c.args.block.now _ _ (chosen_is c) _ _ c.refusal-why.ensures c.width-n.ensures (sym c.fine.ensures ∙ not-false _ c.if-not-fine.false))
+    (encrypt-given _ c.args.keys.now c.args.layers.now c.args.constants.now c.args.secret.now c.args.block.now _ _ (sym c.numbered-chosen.ensures ∙ c.in-Known.is) _ _ c.refusal-why.ensures c.width-n.ensures (sym c.fine.ensures ∙ c.if-not-fine.false))
     (c.answer-2.ensures ∙ ap (answer Fine) (c.width-n.ensures ∙ sym (length-encrypted _ c.args.keys.now c.args.layers.now c.args.constants.now c.args.secret.now c.args.block.now)))
     c.encrypt.ensures

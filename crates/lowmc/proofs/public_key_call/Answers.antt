@@ -16,37 +16,33 @@ use Rattle.lowmc.proofs.CallsLaws.{passed, lent, public_no_set, public-refused, 
 use borrow.Author.Rules.{rules}
 use Rattle.lowmc.proofs.public_key_call.Goals as goal
 
--- the number names the set that the code goes on with
-chosen_is : (c : tie.After-chosen) → numbered c.before.before.before.before.before.before.before.before.before.args.set ≡ Known c.chosen.given.0.0
-chosen_is c = sym c.before.before.numbered.ensures ∙ c.chosen.given.1
-
 pub returns-in_default : goal.returns-in_default
-returns-in_default c = promise_refused _ NoSet _ _ _ (public_no_set _ _ _ _ _ _ _ (sym c.numbered-chosen.ensures ∙ c.enum_told-1.given.1)) c.answer.ensures refl
+returns-in_default c = promise_refused _ NoSet _ _ _ (public_no_set _ _ _ _ _ _ _ (sym c.numbered-chosen.ensures ∙ c.in_default.is)) c.answer.ensures refl
 
 pub public_length-n-requires : goal.public_length-n-requires
-public_length-n-requires c = known_set c.args.set _ (chosen_is c)
+public_length-n-requires c = known_set c.args.set _ (sym c.numbered-chosen.ensures ∙ c.in-Known.is)
 
 pub refusal-why-requires : goal.refusal-why-requires
-refusal-why-requires c = known_set c.args.set _ (chosen_is c)
+refusal-why-requires c = known_set c.args.set _ (sym c.numbered-chosen.ensures ∙ c.in-Known.is)
 
 pub returns-then-not-fine : goal.returns-then-not-fine
 returns-then-not-fine c =
     promise_refused _ _ _ _ _
-    (public-refused _ c.args.keys.now c.args.layers.now c.args.constants.now c.args.secret.now c.args.block.now _ _ (chosen_is c) _ _ c.refusal-why.ensures c.public_length-n.ensures (sym c.fine.ensures ∙ not-true _ c.if-not-fine.true))
+    (public-refused _ c.args.keys.now c.args.layers.now c.args.constants.now c.args.secret.now c.args.block.now _ _ (sym c.numbered-chosen.ensures ∙ c.in-Known.is) _ _ c.refusal-why.ensures c.public_length-n.ensures (sym c.fine.ensures ∙ c.if-not-fine.true))
     c.answer-then-not-fine.ensures refl
 
 pub public_key-requires : goal.public_key-requires
 public_key-requires c =
-    let h = passed _ _ _ _ _ _ _ _ _ c.refusal-why.ensures (sym c.fine.ensures ∙ not-false _ c.if-not-fine.false) in
-    (lent _ c.args.keys.now c.args.layers.now c.args.constants.now c.args.secret.now c.args.block.now _ _ (known_set c.args.set _ (chosen_is c)) h, h.secret-length, h.block_length, subst (λ (k : ℕ). k ≤ length c.args.output.now) c.public_length-n.ensures h.enough)
+    let h = passed _ _ _ _ _ _ _ _ _ c.refusal-why.ensures (sym c.fine.ensures ∙ c.if-not-fine.false) in
+    (lent _ c.args.keys.now c.args.layers.now c.args.constants.now c.args.secret.now c.args.block.now _ _ (known_set c.args.set _ (sym c.numbered-chosen.ensures ∙ c.in-Known.is)) h, h.secret-length, h.block_length, subst (λ (k : ℕ). k ≤ length c.args.output.now) c.public_length-n.ensures h.enough)
 
 pub overflow_cast-n : goal.overflow_cast-n
 unfolding width
-overflow_cast-n c = omega (arith, c.public_length-n.ensures, most public_length 64 tt tt tt (known_set c.args.set _ (chosen_is c)))
+overflow_cast-n c = omega (arith, c.public_length-n.ensures, most public_length 64 tt tt tt (known_set c.args.set _ (sym c.numbered-chosen.ensures ∙ c.in-Known.is)))
 
 pub returns : goal.returns
 returns c =
     promise_given _ _ _ _ _
-    (public-given _ c.args.keys.now c.args.layers.now c.args.constants.now c.args.secret.now c.args.block.now _ _ (chosen_is c) _ _ c.refusal-why.ensures c.public_length-n.ensures (sym c.fine.ensures ∙ not-false _ c.if-not-fine.false))
-    (c.answer-2.ensures ∙ ap (answer Fine) (c.public_length-n.ensures ∙ sym (length-public _ c.args.keys.now c.args.layers.now c.args.constants.now c.args.secret.now c.args.block.now (passed _ _ _ _ _ _ _ _ _ c.refusal-why.ensures (sym c.fine.ensures ∙ not-false _ c.if-not-fine.false)).block_length)))
+    (public-given _ c.args.keys.now c.args.layers.now c.args.constants.now c.args.secret.now c.args.block.now _ _ (sym c.numbered-chosen.ensures ∙ c.in-Known.is) _ _ c.refusal-why.ensures c.public_length-n.ensures (sym c.fine.ensures ∙ c.if-not-fine.false))
+    (c.answer-2.ensures ∙ ap (answer Fine) (c.public_length-n.ensures ∙ sym (length-public _ c.args.keys.now c.args.layers.now c.args.constants.now c.args.secret.now c.args.block.now (passed _ _ _ _ _ _ _ _ _ c.refusal-why.ensures (sym c.fine.ensures ∙ c.if-not-fine.false)).block_length)))
     c.public_key.ensures
