@@ -37,8 +37,8 @@ uninstall:
 	@DESTDIR="$(DESTDIR)" hosts/install --remove "$(PREFIX)"
 
 fmt:
-	rt fmt
+	for crate in crates/*/; do (cd "$$crate" && rt fmt) || exit; done
 	cd second && cargo fmt
 
 clean:
-	rm -rf target second/target
+	rm -rf target crates/*/out second/target

@@ -1,5 +1,7 @@
 // The calls that hosts make: numbers and byte slices in, one 64-bit number out. Each forwards to the crate that has its code and proof.
+// C calls them through `picnic_c`.
 #![tactic(auto)]
+
 ghost use Rattle.hashing.specs.HashCall.{HashPromise};
 ghost use Rattle.hashing.specs.SeedsCall.{SeedsPromise};
 ghost use Rattle.challenge.specs.ChallengeCall.{ChallengePromise};
@@ -9,16 +11,14 @@ ghost use Rattle.lowmc.specs.Calls.{EncryptPromise, PublicKeyPromise};
 ghost use Rattle.shape.specs.Reading.{ReadPromise, WritePromise};
 
 // Fills output with the SHAKE of the set, of input.
-#[unsafe(no_mangle)]
-pub extern "C" fn picnic_hash(set: u64, input: &[u8], output: &mut [u8]) -> u64
+pub fn picnic_hash(set: u64, input: &[u8], output: &mut [u8]) -> u64
     ensures { HashPromise set input.now output.old result output.new }
 {
     hashing::hash(set, input, output)
 }
 
 // Fills the start of output with the seeds derived from a secret key, a message and a public key.
-#[unsafe(no_mangle)]
-pub extern "C" fn picnic_seeds(
+pub fn picnic_seeds(
     set: u64,
     secret: &[u8],
     public: &[u8],
@@ -31,8 +31,7 @@ pub extern "C" fn picnic_seeds(
 }
 
 // The encryption of a block under a secret key, at the start of output.
-#[unsafe(no_mangle)]
-pub extern "C" fn picnic_encrypt(
+pub fn picnic_encrypt(
     set: u64,
     keys: &[u8],
     layers: &[u8],
@@ -47,8 +46,7 @@ pub extern "C" fn picnic_encrypt(
 }
 
 // The public key of a secret key and a plaintext block, at the start of output.
-#[unsafe(no_mangle)]
-pub extern "C" fn picnic_public_key(
+pub fn picnic_public_key(
     set: u64,
     keys: &[u8],
     layers: &[u8],
@@ -63,32 +61,28 @@ pub extern "C" fn picnic_public_key(
 }
 
 // The T values of a challenge from at most limit blocks, one a byte, at the start of output.
-#[unsafe(no_mangle)]
-pub extern "C" fn picnic_challenge(set: u64, input: &[u8], limit: u64, output: &mut [u8]) -> u64
+pub fn picnic_challenge(set: u64, input: &[u8], limit: u64, output: &mut [u8]) -> u64
     ensures { ChallengePromise set input.now limit output.old result output.new }
 {
     challenge::challenge(set, input, limit, output)
 }
 
 // A signature into its unpacked form, at the start of output.
-#[unsafe(no_mangle)]
-pub extern "C" fn picnic_read(set: u64, signature: &[u8], output: &mut [u8]) -> u64
+pub fn picnic_read(set: u64, signature: &[u8], output: &mut [u8]) -> u64
     ensures { ReadPromise set signature.now output.old result output.new }
 {
     signature::read(set, signature, output)
 }
 
 // An unpacked form into its signature, at the start of output.
-#[unsafe(no_mangle)]
-pub extern "C" fn picnic_write(set: u64, unpacked: &[u8], output: &mut [u8]) -> u64
+pub fn picnic_write(set: u64, unpacked: &[u8], output: &mut [u8]) -> u64
     ensures { WritePromise set unpacked.now output.old result output.new }
 {
     signature::write(set, unpacked, output)
 }
 
 // Signs message: the signature at the start of output. The room's needed bytes are set to zero once the first seven checks pass.
-#[unsafe(no_mangle)]
-pub extern "C" fn picnic_sign(
+pub fn picnic_sign(
     set: u64,
     keys: &[u8],
     layers: &[u8],
@@ -123,8 +117,7 @@ pub extern "C" fn picnic_sign(
 }
 
 // Verifies the signature of message: 0 if it is valid. The room's needed bytes are set to zero once the signature is read.
-#[unsafe(no_mangle)]
-pub extern "C" fn picnic_verify(
+pub fn picnic_verify(
     set: u64,
     keys: &[u8],
     layers: &[u8],
