@@ -11,8 +11,8 @@ pub bounds-s-last : goal.bounds-s-last
 unfolding width
 bounds-s-last c = search rules
 
-pub TODO-nonzero_rem_result : goal.TODO-nonzero_rem_result
-TODO-nonzero_rem_result c =
+pub nonzero_rem-result : goal.nonzero_rem-result
+nonzero_rem-result c =
     let start = c in
     rw (unit start.args.m ((start.args.m + 7) / 8) refl) (pow_pos (8 * ((start.args.m + 7) / 8) - start.args.m))
 

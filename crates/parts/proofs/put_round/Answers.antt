@@ -41,7 +41,7 @@ pub overflow_add-result : goal.overflow_add-result
 overflow_add-result c =
     let start =
     c in
-    omega (arith, round_most≤ start.pre.0)
+    omega (arith, round_most≤ start.requires.0)
 
 pub returns : goal.returns
 returns c =
@@ -50,8 +50,8 @@ returns c =
       omega (arith, sizes-other start.args.p start.args.e c.if-e-eq0.false),
       put_other
           start.args.p start.args.e start.args.commitment.now start.args.transcript.now start.args.seed1.now
-          start.args.seed2.now start.args.share.now start.pre.1.0 start.args.output.now start.args.at _
-          c.if-e-eq0.false start.pre.1.1 (omega arith)
+          start.args.seed2.now start.args.share.now start.requires.1.0 start.args.output.now start.args.at _
+          c.if-e-eq0.false start.requires.1.1 (omega arith)
           c.put_four.ensures
           c.place.ensures,
     )

@@ -12,5 +12,5 @@ returns c =
     let a = c.args in
     let x = c.tape_share-a.ensures in
     let y = c.tape_share-b.ensures in
-    three (λ j. _ ≡ input_share a.p.n (block_bits a.key) a.p.now a.p.now j)
+    three (λ j. _ ≡ input_share a.p.n (block_bits a.key) a.t0.now a.t1.now j)
     x y (c.xor-c.ensures ∙ (λ k. block_bits a.key ⊕ (c.xor.ensures ∙ (λ l. x l ⊕ y l)) k))

@@ -11,5 +11,5 @@ pub returns : goal.returns
 unfolding tape_rows
 returns c =
     let a = c.args in
-    λ keys layers constants. three (λ j. _ ≡ tapes_of (cipher_of a.p keys layers constants) a.i.now a.p.now a.i.now j a.i)
+    λ keys layers constants. three (λ j. _ ≡ tapes_of (cipher_of a.p keys layers constants) a.t0.now a.t1.now a.t2.now j a.i)
     c.row_from.ensures c.row_from-2.ensures c.row_from-3.ensures
