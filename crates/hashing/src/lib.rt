@@ -1,5 +1,6 @@
 // What Picnic hashes, over the SHAKE of a set, and the two calls that only hash.
 #![tactic(auto)]
+
 ghost use Rattle.std.specs.Prelude.{◌≡◌, [], ◌∷◌, ◌++◌, ◌<◌, length};
 ghost use Rattle.sets.specs.Sets.{IsSet};
 ghost use Rattle.sets.specs.Lengths.{seeds_length};
@@ -63,7 +64,14 @@ pub fn tape(p: Set, seed: &[u8], salt: &[u8], t: u16, j: u16, output: &mut [u8])
 }
 
 // The digest of a view fills output: d is H_4 of the seed.
-fn view_digest(p: Set, d: &[u8], share: &[u8], transcript: &[u8], output_share: &[u8], output: &mut [u8])
+fn view_digest(
+    p: Set,
+    d: &[u8],
+    share: &[u8],
+    transcript: &[u8],
+    output_share: &[u8],
+    output: &mut [u8],
+)
     requires { IsSet p × (length output.old ≡ p.digest) }
     ensures { output.new ≡ h p 0 (d.now ++ (share.now ++ (transcript.now ++ output_share.now))) }
 {
@@ -73,7 +81,14 @@ fn view_digest(p: Set, d: &[u8], share: &[u8], transcript: &[u8], output_share: 
 }
 
 // The commitment to a party's seed, input share, transcript and output share fills output.
-pub fn commit(p: Set, seed: &[u8], share: &[u8], transcript: &[u8], output_share: &[u8], output: &mut [u8])
+pub fn commit(
+    p: Set,
+    seed: &[u8],
+    share: &[u8],
+    transcript: &[u8],
+    output_share: &[u8],
+    output: &mut [u8],
+)
     requires { IsSet p × (length output.old ≡ p.digest) }
     ensures { output.new ≡ commitment p seed.now share.now transcript.now output_share.now }
 {

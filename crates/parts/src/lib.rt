@@ -1,5 +1,6 @@
 // The parts of a signature in place: values, lengths, padding, where each round's parts stand, and writing a round's parts.
 #![tactic(auto)]
+
 ghost use Rattle.std.specs.Prelude.{◌≡◌, ◌++◌, ◌+◌, ◌*◌, ◌/◌, ◌%◌, ◌≤◌, ◌<◌, length, drop};
 ghost use Rattle.slices.specs.Slices.{put, over};
 ghost use Rattle.bits.specs.Bits.{from};

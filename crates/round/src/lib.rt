@@ -1,6 +1,7 @@
 // The engine: LowMC's circuit on words, simulated for three parties and recomputed for two.
 // A row of gates, of a tape or of a transcript, stands at the top of a word. No branch and no index depends on a secret.
 #![tactic(auto)]
+
 ghost use Rattle.std.specs.Prelude.{◌≡◌, cond, ℕ, ◌*◌, ◌≤◌, ◌<◌, length};
 ghost use Rattle.slices.specs.Slices.{Bytes};
 ghost use Rattle.bits.specs.Bits.{◌⊕◌, zeros, up_to, from};

@@ -1,0 +1,67 @@
+-- `parts::padding_wrong` meets its contract.
+use mathlib.Core.Path.{ap, sym, ◌∙◌}
+use Prim.Native.Nat.{ℕ, ◌+◌, ◌-◌}
+use native.Mathlib.Omega.{arith}
+use borrow.Author.Tests.{not-true, not-false}
+use Rattle.shape.proofs.RoundsLaws.{sizes_bounds}
+use Rattle.shape.proofs.RoundTripsProof.{exact-long}
+use Rattle.shape.proofs.SetFacts.{digest≤, header_length≤, round_most≤}
+use Rattle.parts.proofs.HeadLaws.{value_inside}
+use Rattle.parts.proofs.WalkLaws.{transcript-within, reached-most, Padded, padded-first, padded-more, padded_fails, padded_end}
+use borrow.Author.Rules.{rules}
+use Rattle.parts.proofs.padding_wrong.Goals as goal
+
+pub overflow_add-at : goal.overflow_add-at
+overflow_add-at c = omega (arith, header_length≤ c.requires.0)
+
+pub loop-k-init : goal.loop-k-init
+loop-k-init c = padded-first _ _ _ (ap (λ (n : ℕ). n + 32) c.header-at.ensures)
+
+pub overflow_add-at-in-loop-k : goal.overflow_add-at-in-loop-k
+overflow_add-at-in-loop-k c =
+    let start = c in
+    omega (arith, reached-most c.loop-k.invariant.reached start.requires.0, digest≤ start.requires.0)
+
+pub padded-requires : goal.padded-requires
+padded-requires c =
+    let start = c in
+    transcript-within c.loop-k.invariant.reached start.requires.0 c.loop-k-test.true start.requires.1 _
+    c.gates-m.ensures
+
+pub returns-then-not-padded : goal.returns-then-not-padded
+returns-then-not-padded c =
+    let start = c in
+    padded_fails c.loop-k.invariant start.requires.0 _
+    c.gates-m.ensures c.loop-k-test.true
+    (sym (c.if-not-padded.true) ∙ c.padded.ensures)
+
+pub value-requires : goal.value-requires
+value-requires c =
+    let start = c in
+    value_inside start.args.p _ _ (omega (arith, exact-long start.args.p start.args.s.now start.requires.1))
+    c.loop-k-test.true
+
+pub overflow_add-at-in-loop-k-2 : goal.overflow_add-at-in-loop-k-2
+overflow_add-at-in-loop-k-2 c =
+    let start = c in
+    omega (
+      arith,
+      reached-most c.loop-k.invariant.reached start.requires.0,
+      sizes_bounds
+          start.args.p c.value.result,
+      round_most≤ start.requires.0,
+    )
+
+pub loop-k-preserved : goal.loop-k-preserved
+loop-k-preserved c =
+    let start = c in
+    padded-more c.loop-k.invariant start.requires.0 _
+    c.gates-m.ensures
+    c.loop-k-test.true
+    (sym (c.if-not-padded.false) ∙ c.padded.ensures) _ _ c.value.ensures
+    c.round_length-at.ensures
+
+pub returns : goal.returns
+returns c =
+    let start = c in
+    padded_end c.loop-k.invariant start.requires.0 _ c.gates-m.ensures c.loop-k-test.false

@@ -1,0 +1,30 @@
+-- `parts::places` meets its contract.
+use native.Mathlib.Omega.{arith}
+use Rattle.shape.proofs.RoundsLaws.{sizes_bounds}
+use Rattle.shape.proofs.SetFacts.{digest≤, round_most≤}
+use Rattle.parts.proofs.PlacesLaws.{placed}
+use borrow.Author.Rules.{rules}
+use Rattle.parts.proofs.places.Goals as goal
+
+pub overflow_add-transcript : goal.overflow_add-transcript
+overflow_add-transcript c = omega (arith, digest≤ c.requires.0)
+
+pub overflow_add-seed1 : goal.overflow_add-seed1
+overflow_add-seed1 c = omega (arith, round_most≤ c.requires.0)
+
+pub overflow_add-result : goal.overflow_add-result
+overflow_add-result c = omega (arith, round_most≤ c.requires.0)
+
+pub overflow_add-result-2 : goal.overflow_add-result-2
+overflow_add-result-2 c = omega (arith, round_most≤ c.requires.0)
+
+pub overflow_add-result-3 : goal.overflow_add-result-3
+overflow_add-result-3 c =
+    let start = c in
+    omega (arith, round_most≤ start.requires.0, sizes_bounds start.args.p start.args.e)
+
+pub returns : goal.returns
+returns c =
+    let start = c in
+    placed start.args.p start.args.e start.args.at _ _ _ _ c.transcript.ensures
+    c.seed_width.ensures c.round_least.ensures c.round_length.ensures

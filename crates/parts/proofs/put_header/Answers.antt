@@ -1,0 +1,36 @@
+-- `parts::put_header` meets its contract.
+use mathlib.Core.Path.{◌≡◌}
+use Prim.Native.Nat.{◌≤◌, ◌-◌}
+use native.Mathlib.Omega.{arith}
+use Rattle.sets.specs.Lengths.{header_length}
+use Rattle.shape.proofs.SetFacts.{header_length≤}
+use Rattle.parts.proofs.PutLaws.{Headed, headed_none, headed_length, headed_more, headed_all}
+use borrow.Author.Rules.{rules}
+use Rattle.parts.proofs.put_header.Goals as goal
+
+pub loop-i-init : goal.loop-i-init
+loop-i-init c = (headed_none _ _, omega arith)
+
+pub header_byte-requires : goal.header_byte-requires
+header_byte-requires c =
+    let start = c in
+    (omega (arith, header_length≤ start.requires.0), start.requires.1.1.0)
+
+pub bounds-output-i : goal.bounds-output-i
+bounds-output-i c = omega (arith, headed_length c.loop-i.invariant.0)
+
+pub loop-i-preserved : goal.loop-i-preserved
+loop-i-preserved c =
+    let start = c in (
+      headed_more c.loop-i.invariant.0 (omega arith) _ c.header_byte.ensures,
+      omega arith,
+    )
+
+pub shape_of-output : goal.shape_of-output
+shape_of-output c = headed_length c.loop-i.invariant.0
+
+pub returns : goal.returns
+returns c =
+    let start = c in
+    let e : c.loop-i.i ≡ header_length start.args.p =
+    omega arith in headed_all c.loop-i.invariant.0 start.args.p start.requires.1.0 e
