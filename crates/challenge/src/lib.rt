@@ -1,5 +1,6 @@
 // The challenge: blocks hashed one from the other, and values read from their pairs of bits until place T is filled.
 #![tactic(auto)]
+
 ghost use Rattle.std.specs.Prelude.{◌≡◌, ◌∷◌, ◌*◌, ◌≤◌, ◌<◌, length, take};
 ghost use Rattle.slices.specs.Slices.{Bytes};
 ghost use Rattle.sets.specs.Sets.{IsSet};

@@ -1,5 +1,6 @@
 // Reading a signature into its unpacked form, and writing an unpacked form as a signature.
 #![tactic(auto)]
+
 ghost use Rattle.std.specs.Prelude.{◌≡◌, ◌+◌, ◌≤◌, length, drop};
 ghost use Rattle.slices.specs.Slices.{part, put, over};
 ghost use Rattle.sets.specs.Sets.{IsSet};

@@ -1,0 +1,83 @@
+-- `challenge::challenge` meets its contract.
+use native.Mathlib.Omega.{arith}
+use mathlib.Core.Path.{◌≡◌, refl, sym, ap, ◌∙◌, subst}
+use mathlib.Core.Bool.{false}
+use Prim.Native.Nat.{ℕ, ◌≤◌}
+use lib.ListN.{length, replicate}
+use lib.Seq.{length-take-le}
+use mir.Facts.{Fits-below}
+use Rattle.slices.specs.Slices.{Bytes, over}
+use Rattle.sets.specs.declared.Set.{Set}
+use Rattle.sets.specs.declared.Chosen.TheVariants.{Known}
+use Rattle.sets.specs.Sets.{IsSet, numbered}
+use Rattle.sets.proofs.Each.{known_set, most}
+use Rattle.answers.specs.declared.Refusal.TheVariants.{Fine, NoSet, Limit, Room, Blocks}
+use Rattle.answers.specs.Answers.{answer}
+use Rattle.answers.specs.Conditions.{limit_out}
+use Rattle.answers.proofs.OutcomeLaws.{promise_refused, promise_given}
+use Rattle.hashing.specs.Hashing.{h}
+use Rattle.challenge.specs.Filling.{Fills}
+use Rattle.challenge.proofs.BlocksLaws.{length-first}
+use Rattle.challenge.proofs.FillingLaws.{fills_short, fills_full, fills_front}
+use Rattle.challenge.proofs.ChallengeCallLaws.{challenged_no_set, challenged-limit, challenged-room, challenged-few, challenged-given}
+use borrow.Author.Rules.{rules}
+use Rattle.challenge.proofs.challenge.Goals as goal
+
+is_set : (c : tie.After-chosen) → IsSet c.chosen.given.0.0
+is_set c = known_set c.before.before.before.before.before.args.set _ (sym c.numbered-chosen.ensures ∙ c.in-Known.is)
+
+-- the array of values is long enough
+t_most : (c : tie.After-chosen) → c.chosen.given.0.0.t ≤ 438
+t_most c = most (λ (p : Set). p.t) 438 tt tt tt (is_set c)
+
+-- the limit is legal
+legal : (c : tie.Else1) → limit_out c.before.before.before.before.before.before.before.before.args.limit ≡ false
+legal c = sym c.before.limit-out.ensures ∙ c.if1.false
+
+-- what is filled in, from the block of the input
+filled : (c : tie.After-fill)
+    → Fills c.before.before.before.before.before.before.before.chosen.given.0.0 (h c.before.before.before.before.before.before.before.chosen.given.0.0 1 c.before.before.before.before.before.before.before.before.before.before.before.before.args.input.now) c.before.before.before.before.before.before.before.before.before.before.before.before.args.limit (replicate 438 0) c.fill.result c.fill.new.1.1.1.0
+filled c = rw (← c.before.before.block.ensures) c.fill.ensures
+
+fits : (c : tie.After-fill) → c.before.before.before.before.before.before.before.chosen.given.0.0.t ≤ length c.fill.new.1.1.1.0
+fits c = omega (arith, c.fill.auto.1.1.1.0, t_most c.before.before.before.before.before.before.before)
+
+pub returns-in_default : goal.returns-in_default
+returns-in_default c = promise_refused _ NoSet _ _ _ (challenged_no_set _ _ _ _ (sym c.numbered-chosen.ensures ∙ c.in_default.is)) c.answer.ensures refl
+
+pub returns-then-limit_out : goal.returns-then-limit_out
+returns-then-limit_out c = promise_refused _ Limit _ _ _ (challenged-limit _ _ _ _ _ (sym c.numbered-chosen.ensures ∙ c.in-Known.is) (sym c.limit_out.ensures ∙ c.if-limit_out.true)) c.answer-then-limit_out.ensures refl
+
+pub returns-then-output-t : goal.returns-then-output-t
+returns-then-output-t c = promise_refused _ Room _ _ _ (challenged-room _ _ _ _ _ (sym c.numbered-chosen.ensures ∙ c.in-Known.is) (legal c) c.if-output-t.true) c.answer-then-output-t.ensures refl
+
+pub block-requires : goal.block-requires
+block-requires c = is_set c
+
+pub fill-filled-requires : goal.fill-filled-requires
+fill-filled-requires c = (is_set c, t_most c)
+
+pub slice_bounds-values-end : goal.slice_bounds-values-end
+slice_bounds-values-end c = fits c
+
+pub slice_bounds-copy-end : goal.slice_bounds-copy-end
+slice_bounds-copy-end c = sym (length-take-le _ _ (fits c))
+
+pub copy-requires : goal.copy-requires
+copy-requires c =
+    subst (λ (n : ℕ). n ≤ length c.args.output.now) (sym (length-take-le _ _ (fits c))) c.if-output-t.false
+
+pub overflow_cast-t : goal.overflow_cast-t
+overflow_cast-t c = Fits-below tt (t_most c)
+
+pub returns-in-Short : goal.returns-in-Short
+returns-in-Short c = promise_refused _ Blocks _ _ _ (challenged-few _ _ _ _ _ (sym c.numbered-chosen.ensures ∙ c.in-Known.is) (legal c) c.if-output-t.false (fills_short (filled c) c.enum_told-in-Short-1.given.1)) c.answer-in-Short.ensures refl
+
+pub returns-in-Full : goal.returns-in-Full
+returns-in-Full c =
+    let f = filled c in
+    let told = c.enum_told-in-Full-1.given.1 in
+    promise_given _ _ _ _ _
+    (challenged-given _ _ _ _ _ (sym c.numbered-chosen.ensures ∙ c.in-Known.is) (legal c) c.if-output-t.false (fills_full f told))
+    (c.answer-in-Full.ensures ∙ ap (answer Fine) (sym (length-first _ _ _ (fills_full f told))))
+    (c.copy.ensures ∙ ap (λ (vs : Bytes). over vs c.args.output.now) (fills_front f told))

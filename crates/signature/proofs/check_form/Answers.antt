@@ -1,0 +1,30 @@
+-- `signature::check_form` meets its contract.
+use mathlib.Core.Path.{sym, ◌∙◌}
+use native.Mathlib.Omega.{arith}
+use Rattle.shape.proofs.ReadingLaws.{write-length, write-value, write-slot, write-fine}
+use borrow.Author.Rules.{rules}
+use Rattle.signature.proofs.check_form.Goals as goal
+
+pub returns-then-x-unpacked_length : goal.returns-then-x-unpacked_length
+returns-then-x-unpacked_length c =
+    let start = c in
+    sym (write-length start.args.p start.args.x.now (λ e. omega (arith, e, c.if-x-unpacked_length.true, c.unpacked_length.ensures)))
+
+pub returns-then-value_wrong : goal.returns-then-value_wrong
+returns-then-value_wrong c =
+    let start = c in
+    sym (write-value start.args.p start.args.x.now (omega arith) (sym c.value_wrong.ensures ∙ c.if-value_wrong.true))
+
+pub returns-then-slot_wrong : goal.returns-then-slot_wrong
+returns-then-slot_wrong c =
+    let start = c in
+    sym (write-slot start.args.p start.args.x.now (omega arith)
+    (sym c.value_wrong.ensures ∙ c.if-value_wrong.false)
+    (sym c.slot_wrong.ensures ∙ c.if-slot_wrong.true))
+
+pub returns : goal.returns
+returns c =
+    let start = c in
+    sym (write-fine start.args.p start.args.x.now (omega arith)
+    (sym c.value_wrong.ensures ∙ c.if-value_wrong.false)
+    (sym c.slot_wrong.ensures ∙ c.if-slot_wrong.false))

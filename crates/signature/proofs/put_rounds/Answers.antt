@@ -1,0 +1,89 @@
+-- `signature::put_rounds` meets its contract.
+use mathlib.Core.Path.{refl}
+use Prim.Native.Nat.{◌+◌, ◌-◌}
+use native.Mathlib.Omega.{arith}
+use lib.ListN.{drop, get_or, length-take}
+use Rattle.shape.proofs.RoundsLaws.{sizes_bounds}
+use Rattle.shape.proofs.SetFacts.{t≤, header_length≤, round_most≤}
+use Rattle.signature.proofs.PackLaws.{Packed, packed_none, packed-length, packed_inside, packed-small, packed_more, packed_all}
+use borrow.Author.Rules.{rules}
+use Rattle.signature.proofs.put_rounds.Goals as goal
+
+pub overflow_add-from : goal.overflow_add-from
+overflow_add-from c = omega (arith, t≤ c.requires.0)
+
+pub overflow_add-at : goal.overflow_add-at
+overflow_add-at c = omega (arith, header_length≤ c.requires.0)
+
+pub loop-k-init : goal.loop-k-init
+loop-k-init c = packed_none _ _ _ _ _ (omega arith) (omega arith)
+
+pub overflow_add-end : goal.overflow_add-end
+overflow_add-end c =
+    let start = c in
+    omega (
+      arith,
+      packed_inside c.loop-k.invariant start.requires.1.0 start.requires.1.1
+          c.loop-k-test.true,
+    )
+
+pub slice_bounds-place-end : goal.slice_bounds-place-end
+slice_bounds-place-end c =
+    let start = c in
+    omega (
+      arith,
+      packed_inside c.loop-k.invariant start.requires.1.0 start.requires.1.1
+          c.loop-k-test.true,
+    )
+
+pub place-requires : goal.place-requires
+place-requires c =
+    let start = c in
+    let turn = c.loop-k in
+    omega (
+      arith,
+      packed_inside turn.invariant start.requires.1.0 start.requires.1.1 c.loop-k-test.true,
+      packed-length turn.invariant start.requires.1.0 start.requires.1.1,
+      length-take (turn.from + c.round_length-n.result - turn.from) (drop turn.from start.args.x.now),
+    )
+
+pub overflow_add-at-in-loop-k : goal.overflow_add-at-in-loop-k
+overflow_add-at-in-loop-k c =
+    let start = c in
+    omega (
+      arith,
+      packed-small c.loop-k.invariant start.requires.1.0
+          start.requires.1.1 start.requires.0 c.loop-k-test.true,
+      sizes_bounds
+          start.args.p (get_or start.args.x.now
+          c.loop-k.k 0),
+      round_most≤ start.requires.0,
+    )
+
+pub overflow_add-from-in-loop-k : goal.overflow_add-from-in-loop-k
+overflow_add-from-in-loop-k c =
+    let start = c in
+    omega (
+      arith,
+      packed-small c.loop-k.invariant start.requires.1.0
+          start.requires.1.1 start.requires.0 c.loop-k-test.true,
+    )
+
+pub loop-k-preserved : goal.loop-k-preserved
+loop-k-preserved c =
+    let start = c in
+    packed_more c.loop-k.invariant start.requires.1.0 start.requires.1.1
+    c.loop-k-test.true _ _ _
+    c.round_length-n.ensures
+    c.round_most-most.ensures refl
+    c.place.ensures
+
+pub shape_of-output : goal.shape_of-output
+shape_of-output c =
+    let start = c in
+    packed-length c.loop-k.invariant start.requires.1.0 start.requires.1.1
+
+pub returns : goal.returns
+returns c =
+    let start = c in
+    packed_all c.loop-k.invariant start.requires.1.0 start.requires.1.1 c.loop-k-test.false

@@ -1,0 +1,31 @@
+-- `signature::slot_clean` meets its contract.
+use mathlib.Core.Path.{sym, ◌∙◌}
+use borrow.Author.Tests.{not-true, not-false}
+use Rattle.signature.proofs.TestLaws.{transcript_inside, slot_fails, slot-other, slot_zero}
+use borrow.Author.Rules.{rules}
+use Rattle.signature.proofs.slot_clean.Goals as goal
+
+pub padded-requires : goal.padded-requires
+padded-requires c =
+    let start = c in
+    transcript_inside start.requires.0 _ _ _ start.requires.1 c.gates.ensures
+
+pub returns-then-not-padded : goal.returns-then-not-padded
+returns-then-not-padded c =
+    let start = c in
+    slot_fails start.requires.0 start.args.e start.args.at start.args.x.now _ c.gates.ensures
+    (sym (c.if-not-padded.true) ∙ c.padded.ensures)
+
+pub returns-then-e-ne0 : goal.returns-then-e-ne0
+returns-then-e-ne0 c =
+    let start = c in
+    slot-other start.requires.0 start.args.e start.args.at start.args.x.now _ c.gates.ensures
+    (sym (c.if-not-padded.false) ∙ c.padded.ensures) c.if-e-ne0.true
+
+pub returns : goal.returns
+returns c =
+    let start = c in
+    slot_zero start.requires.0 start.args.e start.args.at start.args.x.now _
+    c.gates.ensures
+    (sym (c.if-not-padded.false) ∙ c.padded.ensures)
+    c.if-e-ne0.false _ _ c.round_least.ensures c.width.ensures _ c.zeros.ensures

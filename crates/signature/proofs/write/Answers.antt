@@ -1,0 +1,24 @@
+-- `signature::write` meets its contract.
+use mathlib.Core.Path.{◌≡◌, refl, sym, ◌∙◌}
+use Rattle.sets.specs.declared.Chosen.TheVariants.{Known}
+use Rattle.sets.specs.Sets.{numbered}
+use Rattle.sets.proofs.Each.{known_set}
+use Rattle.answers.specs.declared.Refusal.TheVariants.{NoSet}
+use Rattle.answers.proofs.OutcomeLaws.{promise_refused}
+use Rattle.signature.proofs.CallLaws.{write_unknown, write_known}
+use borrow.Author.Rules.{rules}
+use Rattle.signature.proofs.write.Goals as goal
+
+pub returns-in_default : goal.returns-in_default
+returns-in_default c =
+    let start = c in
+    promise_refused _ NoSet _ _ _ (write_unknown _ start.args.x.now _
+    (sym c.numbered-chosen.ensures ∙ c.in_default.is)) c.answer.ensures refl
+
+pub write_into-requires : goal.write_into-requires
+write_into-requires c =
+    let start = c in
+    known_set start.args.set _ (sym c.numbered-chosen.ensures ∙ c.in-Known.is)
+
+pub returns : goal.returns
+returns c = write_known _ _ (sym c.numbered-chosen.ensures ∙ c.in-Known.is) _ _ _ _ _ c.write_into.ensures
