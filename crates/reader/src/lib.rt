@@ -2,6 +2,7 @@
 // cursor functions, which take the slice and the position by value. No function asks anything of its caller: byte and bit of a
 // position are held apart, so that no number overflows, however long the slice is and wherever a caller puts the position.
 #![tactic(auto)]
+
 ghost use Rattle.std.specs.Prelude.{◌≡◌, ◌+◌, ◌*◌, length};
 ghost use Rattle.bits.specs.Bytes.{width};
 ghost use Rattle.reader.specs.Reading.{bit_number, within, next_bit, after_bit, follow, next_bytes, after_bytes, digit_of};

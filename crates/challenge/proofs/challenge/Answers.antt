@@ -23,24 +23,9 @@ use Rattle.challenge.proofs.ChallengeCallLaws.{challenged_no_set, challenged-lim
 use borrow.Author.Rules.{rules}
 use Rattle.challenge.proofs.challenge.Goals as goal
 
-is_set : (c : tie.After-chosen) → IsSet c.chosen.given.0.0
-is_set c = known_set c.before.before.before.before.before.args.set _ (sym c.numbered-chosen.ensures ∙ c.in-Known.is)
-
 -- the array of values is long enough
-t_most : (c : tie.After-chosen) → c.chosen.given.0.0.t ≤ 438
-t_most c = most (λ (p : Set). p.t) 438 tt tt tt (is_set c)
-
--- the limit is legal
-legal : (c : tie.Else1) → limit_out c.before.before.before.before.before.before.before.before.args.limit ≡ false
-legal c = sym c.before.limit-out.ensures ∙ c.if1.false
-
--- what is filled in, from the block of the input
-filled : (c : tie.After-fill)
-    → Fills c.before.before.before.before.before.before.before.chosen.given.0.0 (h c.before.before.before.before.before.before.before.chosen.given.0.0 1 c.before.before.before.before.before.before.before.before.before.before.before.before.args.input.now) c.before.before.before.before.before.before.before.before.before.before.before.before.args.limit (replicate 438 0) c.fill.result c.fill.new.1.1.1.0
-filled c = rw (← c.before.before.block.ensures) c.fill.ensures
-
-fits : (c : tie.After-fill) → c.before.before.before.before.before.before.before.chosen.given.0.0.t ≤ length c.fill.new.1.1.1.0
-fits c = omega (arith, c.fill.auto.1.1.1.0, t_most c.before.before.before.before.before.before.before)
+t_most : {p : Set} → IsSet p → p.t ≤ 438
+t_most = most (λ (p : Set). p.t) 438 tt tt tt
 
 pub returns-in_default : goal.returns-in_default
 returns-in_default c = promise_refused _ NoSet _ _ _ (challenged_no_set _ _ _ _ (sym c.numbered-chosen.ensures ∙ c.in_default.is)) c.answer.ensures refl
@@ -49,35 +34,35 @@ pub returns-then-limit_out : goal.returns-then-limit_out
 returns-then-limit_out c = promise_refused _ Limit _ _ _ (challenged-limit _ _ _ _ _ (sym c.numbered-chosen.ensures ∙ c.in-Known.is) (sym c.limit_out.ensures ∙ c.if-limit_out.true)) c.answer-then-limit_out.ensures refl
 
 pub returns-then-output-t : goal.returns-then-output-t
-returns-then-output-t c = promise_refused _ Room _ _ _ (challenged-room _ _ _ _ _ (sym c.numbered-chosen.ensures ∙ c.in-Known.is) (legal c) c.if-output-t.true) c.answer-then-output-t.ensures refl
+returns-then-output-t c = promise_refused _ Room _ _ _ (challenged-room _ _ _ _ _ (sym c.numbered-chosen.ensures ∙ c.in-Known.is) (sym c.limit_out.ensures ∙ c.if-limit_out.false) c.if-output-t.true) c.answer-then-output-t.ensures refl
 
 pub block-requires : goal.block-requires
-block-requires c = is_set c
+block-requires c = known_set c.args.set _ (sym c.numbered-chosen.ensures ∙ c.in-Known.is)
 
 pub fill-filled-requires : goal.fill-filled-requires
-fill-filled-requires c = (is_set c, t_most c)
+fill-filled-requires c = ((known_set c.args.set _ (sym c.numbered-chosen.ensures ∙ c.in-Known.is)), t_most (known_set c.args.set _ (sym c.numbered-chosen.ensures ∙ c.in-Known.is)))
 
 pub slice_bounds-values-end : goal.slice_bounds-values-end
-slice_bounds-values-end c = fits c
+slice_bounds-values-end c = omega (arith, c.fill-filled.auto.out, t_most (known_set c.args.set _ (sym c.numbered-chosen.ensures ∙ c.in-Known.is)))
 
 pub slice_bounds-copy-end : goal.slice_bounds-copy-end
-slice_bounds-copy-end c = sym (length-take-le _ _ (fits c))
+slice_bounds-copy-end c = sym (length-take-le _ _ (omega (arith, c.fill-filled.auto.out, t_most (known_set c.args.set _ (sym c.numbered-chosen.ensures ∙ c.in-Known.is)))))
 
 pub copy-requires : goal.copy-requires
 copy-requires c =
-    subst (λ (n : ℕ). n ≤ length c.args.output.now) (sym (length-take-le _ _ (fits c))) c.if-output-t.false
+    subst (λ (n : ℕ). n ≤ length c.args.output.now) (sym (length-take-le _ _ (omega (arith, c.fill-filled.auto.out, t_most (known_set c.args.set _ (sym c.numbered-chosen.ensures ∙ c.in-Known.is)))))) c.if-output-t.false
 
 pub overflow_cast-t : goal.overflow_cast-t
-overflow_cast-t c = Fits-below tt (t_most c)
+overflow_cast-t c = Fits-below tt (t_most (known_set c.args.set _ (sym c.numbered-chosen.ensures ∙ c.in-Known.is)))
 
 pub returns-in-Short : goal.returns-in-Short
-returns-in-Short c = promise_refused _ Blocks _ _ _ (challenged-few _ _ _ _ _ (sym c.numbered-chosen.ensures ∙ c.in-Known.is) (legal c) c.if-output-t.false (fills_short (filled c) c.enum_told-in-Short-1.given.1)) c.answer-in-Short.ensures refl
+returns-in-Short c = promise_refused _ Blocks _ _ _ (challenged-few _ _ _ _ _ (sym c.numbered-chosen.ensures ∙ c.in-Known.is) (sym c.limit_out.ensures ∙ c.if-limit_out.false) c.if-output-t.false (fills_short (rw c.block.ensures at c.fill-filled.ensures) c.in-Short.is)) c.answer-in-Short.ensures refl
 
 pub returns-in-Full : goal.returns-in-Full
 returns-in-Full c =
-    let f = filled c in
-    let told = c.enum_told-in-Full-1.given.1 in
+    let f = rw c.block.ensures at c.fill-filled.ensures in
+    let told = c.in-Full.is in
     promise_given _ _ _ _ _
-    (challenged-given _ _ _ _ _ (sym c.numbered-chosen.ensures ∙ c.in-Known.is) (legal c) c.if-output-t.false (fills_full f told))
+    (challenged-given _ _ _ _ _ (sym c.numbered-chosen.ensures ∙ c.in-Known.is) (sym c.limit_out.ensures ∙ c.if-limit_out.false) c.if-output-t.false (fills_full f told))
     (c.answer-in-Full.ensures ∙ ap (answer Fine) (sym (length-first _ _ _ (fills_full f told))))
     (c.copy.ensures ∙ ap (λ (vs : Bytes). over vs c.args.output.now) (fills_front f told))
