@@ -1,5 +1,6 @@
 // What signing and verifying share: the bytes of a party, and the working room that a round's output shares and commitments go into.
 #![tactic(auto)]
+
 ghost use Rattle.std.specs.Prelude.{◌≡◌, ◌++◌, ◌+◌, ◌*◌, ◌≤◌, ◌<◌, length, take};
 ghost use Rattle.slices.specs.Slices.{Bytes, put};
 ghost use Rattle.bits.specs.Bytes.{bytes_of};
@@ -98,7 +99,13 @@ pub fn transcribed(p: Set, said: Strip) -> [u8; 143]
 }
 
 // The commitment to a seed, an input share, a transcript and an output share, at the start of an array.
-pub fn committed(p: Set, seed: &[u8], share: &[u8], transcript: &[u8], output_share: &[u8]) -> [u8; 64]
+pub fn committed(
+    p: Set,
+    seed: &[u8],
+    share: &[u8],
+    transcript: &[u8],
+    output_share: &[u8],
+) -> [u8; 64]
     requires { IsSet p }
     ensures { take p.digest result ≡ commitment p seed.now share.now transcript.now output_share.now }
 {
