@@ -1,0 +1,108 @@
+-- Each function that C calls asks nothing of its caller, and what it ensures is the promise of its call. `Pre` and `Post` are the
+-- function's `requires` and `ensures` as the prover reads them: a has the arguments in their order, r is the answer, and s has the
+-- arguments again as they are at the end.
+use Rattle.hashing.specs.HashCall.{HashPromise}
+use Rattle.hashing.specs.SeedsCall.{SeedsPromise}
+use Rattle.lowmc.specs.Calls.{EncryptPromise, PublicKeyPromise}
+use Rattle.challenge.specs.ChallengeCall.{ChallengePromise}
+use Rattle.shape.specs.Reading.{ReadPromise, WritePromise}
+use Rattle.signer.specs.Sign.{Signed}
+use Rattle.verifier.specs.Verify.{Verified}
+use Rattle.picnic_c.proofs.picnic_hash.Reads as hash
+use Rattle.picnic_c.proofs.picnic_seeds.Reads as seeds
+use Rattle.picnic_c.proofs.picnic_encrypt.Reads as encrypt
+use Rattle.picnic_c.proofs.picnic_public_key.Reads as public_key
+use Rattle.picnic_c.proofs.picnic_challenge.Reads as challenge
+use Rattle.picnic_c.proofs.picnic_read.Reads as read
+use Rattle.picnic_c.proofs.picnic_write.Reads as write
+use Rattle.picnic_c.proofs.picnic_sign.Reads as sign
+use Rattle.picnic_c.proofs.picnic_verify.Reads as verify
+
+pub hash_promised : (κs : _) (a : _) (r : _) (s : _) → hash.Post κs a r s
+    → HashPromise a.0 a.1.0.now a.1.1.0.now r s.1.1.0.now
+hash_promised κs a r s h = h
+
+pub seeds_promised : (κs : _) (a : _) (r : _) (s : _) → seeds.Post κs a r s
+    → SeedsPromise a.0 a.1.0.now a.1.1.0.now a.1.1.1.0.now a.1.1.1.1.0.now r s.1.1.1.1.0.now
+seeds_promised κs a r s h = h
+
+pub encrypt_promised : (κs : _) (a : _) (r : _) (s : _) → encrypt.Post κs a r s
+    → EncryptPromise a.0 a.1.0.now a.1.1.0.now a.1.1.1.0.now a.1.1.1.1.0.now a.1.1.1.1.1.0.now a.1.1.1.1.1.1.0.now r s.1.1.1.1.1.1.0.now
+encrypt_promised κs a r s h = h
+
+pub public_key_promised : (κs : _) (a : _) (r : _) (s : _) → public_key.Post κs a r s
+    → PublicKeyPromise a.0 a.1.0.now a.1.1.0.now a.1.1.1.0.now a.1.1.1.1.0.now a.1.1.1.1.1.0.now a.1.1.1.1.1.1.0.now r s.1.1.1.1.1.1.0.now
+public_key_promised κs a r s h = h
+
+pub challenge_promised : (κs : _) (a : _) (r : _) (s : _) → challenge.Post κs a r s
+    → ChallengePromise a.0 a.1.0.now a.1.1.0 a.1.1.1.0.now r s.1.1.1.0.now
+challenge_promised κs a r s h = h
+
+pub read_promised : (κs : _) (a : _) (r : _) (s : _) → read.Post κs a r s
+    → ReadPromise a.0 a.1.0.now a.1.1.0.now r s.1.1.0.now
+read_promised κs a r s h = h
+
+pub write_promised : (κs : _) (a : _) (r : _) (s : _) → write.Post κs a r s
+    → WritePromise a.0 a.1.0.now a.1.1.0.now r s.1.1.0.now
+write_promised κs a r s h = h
+
+pub sign_promised : (κs : _) (a : _) (r : _) (s : _) → sign.Post κs a r s
+    → Signed
+    (record {
+      set_number = a.0;
+      keys = a.1.0.now;
+      layers = a.1.1.0.now;
+      constants = a.1.1.1.0.now;
+      secret = a.1.1.1.1.0.now;
+      public = a.1.1.1.1.1.0.now;
+      message = a.1.1.1.1.1.1.0.now;
+      limit = a.1.1.1.1.1.1.1.0;
+      seeds = a.1.1.1.1.1.1.1.1.0.now;
+      room = a.1.1.1.1.1.1.1.1.1.0.now;
+      output = a.1.1.1.1.1.1.1.1.1.1.0.now;
+    })
+    r s.1.1.1.1.1.1.1.1.1.0.now s.1.1.1.1.1.1.1.1.1.1.0.now
+sign_promised κs a r s h = h
+
+pub verify_promised : (κs : _) (a : _) (r : _) (s : _) → verify.Post κs a r s
+    → Verified
+    (record {
+      set_number = a.0;
+      keys = a.1.0.now;
+      layers = a.1.1.0.now;
+      constants = a.1.1.1.0.now;
+      public = a.1.1.1.1.0.now;
+      message = a.1.1.1.1.1.0.now;
+      limit = a.1.1.1.1.1.1.0;
+      room = a.1.1.1.1.1.1.1.0.now;
+      signature = a.1.1.1.1.1.1.1.1.0.now;
+    })
+    r s.1.1.1.1.1.1.1.0.now
+verify_promised κs a r s h = h
+
+pub hash_asks : (κs : _) (a : _) → hash.Pre κs a
+hash_asks κs a = tt
+
+pub seeds_asks : (κs : _) (a : _) → seeds.Pre κs a
+seeds_asks κs a = tt
+
+pub encrypt_asks : (κs : _) (a : _) → encrypt.Pre κs a
+encrypt_asks κs a = tt
+
+pub public_key_asks : (κs : _) (a : _) → public_key.Pre κs a
+public_key_asks κs a = tt
+
+pub challenge_asks : (κs : _) (a : _) → challenge.Pre κs a
+challenge_asks κs a = tt
+
+pub read_asks : (κs : _) (a : _) → read.Pre κs a
+read_asks κs a = tt
+
+pub write_asks : (κs : _) (a : _) → write.Pre κs a
+write_asks κs a = tt
+
+pub sign_asks : (κs : _) (a : _) → sign.Pre κs a
+sign_asks κs a = tt
+
+pub verify_asks : (κs : _) (a : _) → verify.Pre κs a
+verify_asks κs a = tt
