@@ -37,7 +37,7 @@ use round::Again;
 use sets::{Chosen, Set};
 
 // What is opened of a round: the input shares of two parties, each at the start of an array, and what is recomputed.
-#[derive(Drop)]
+#[derive(Clone, Copy)]
 pub struct Opened {
     pub share1: [u8; 32],
     pub share2: [u8; 32],
