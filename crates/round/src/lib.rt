@@ -151,7 +151,7 @@ fn advance_shares(
 }
 
 // What a recomputation leaves: the output shares of the two opened parties, and the first one's transcript.
-#[derive(Drop)]
+#[derive(Clone, Copy)]
 pub struct Again {
     pub first: Block,
     pub second: Block,
@@ -334,7 +334,7 @@ fn rows_at(p: Set, t0: &[u8], t1: &[u8], t2: &[u8], i: usize) -> Gates
 }
 
 // What a simulation leaves: the output shares and the transcripts.
-#[derive(Drop)]
+#[derive(Clone, Copy)]
 pub struct View {
     pub out: Shares,
     pub a: Strip,

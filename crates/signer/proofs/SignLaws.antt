@@ -45,6 +45,22 @@ use Rattle.signer.specs.Finished.{Finished}
 use Rattle.signer.proofs.SeedLaws.{salt_part}
 use Rattle.signer.proofs.PlayLaws.{length-outputs, length-commitments}
 
+-- what a host hands in
+abbrev pub handed : ℕ → (keys layers constants secret public message : Bytes) → ℕ → (seeds room output : Bytes) → Given
+handed set_number keys layers constants secret public message limit seeds room output = record {
+  set_number = set_number;
+  keys = keys;
+  layers = layers;
+  constants = constants;
+  secret = secret;
+  public = public;
+  message = message;
+  limit = limit;
+  seeds = seeds;
+  room = room;
+  output = output;
+}
+
 -- ---- the key pair
 
 -- the lent plaintext is a block, where m is the code's width

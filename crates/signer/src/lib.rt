@@ -1,6 +1,7 @@
 // Signing: checks, a pass over the rounds that fills the room, the challenge, and a pass that writes the signature.
 // A round is simulated anew for the second pass: nothing larger than its tapes and transcripts is kept. No branch and no index depends on a secret.
 #![tactic(auto)]
+
 ghost use Rattle.std.specs.Prelude.{◌≡◌, cond, ◌++◌, ℕ, ◌+◌, ◌*◌, ◌≤◌, ◌<◌, eqb, length, take, replicate};
 ghost use Rattle.slices.specs.Slices.{Bytes, put, over, equal};
 ghost use Rattle.bits.specs.Bytes.{bits_of, bytes_of};
@@ -37,7 +38,7 @@ use round::{Shares, View};
 use sets::{Chosen, Set};
 
 // What the signer has of a round. Transcripts are bytes, each at the start of an array.
-#[derive(Drop)]
+#[derive(Clone, Copy)]
 pub struct Played {
     pub inputs: Shares,
     pub outputs: Shares,

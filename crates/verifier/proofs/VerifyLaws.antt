@@ -29,6 +29,20 @@ use Rattle.room.specs.Room.{clears, room_after}
 use Rattle.room.proofs.AfterLaws.{keeps_first}
 use Rattle.verifier.specs.Verify.{Given, Verified, length_checks, verdict_checks, first_block, checks, refusal_for, SameVerified}
 
+-- what a host hands in
+abbrev pub handed : ℕ → (keys layers constants public message : Bytes) → ℕ → (room signature : Bytes) → Given
+handed set_number keys layers constants public message limit room signature = record {
+  set_number = set_number;
+  keys = keys;
+  layers = layers;
+  constants = constants;
+  public = public;
+  message = message;
+  limit = limit;
+  room = room;
+  signature = signature;
+}
+
 -- the verdict on the room as it was filled, in the definitions' words
 pub verdict_as : (p : Set) (keys layers constants public message s filled : Bytes) (limit : ℕ) → first (read_checks p s) ≡ Fine
     → filled ≡ verifier_filling p (cipher_of p keys layers constants) public (form p s)

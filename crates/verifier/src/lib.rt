@@ -1,5 +1,6 @@
 // Verifying: checks, the rounds recomputed into the room, the challenge, and the verdict.
 #![tactic(auto)]
+
 ghost use Rattle.std.specs.Prelude.{◌≡◌, ℕ, ◌+◌, ◌*◌, ◌≤◌, ◌<◌, length, take};
 ghost use Rattle.slices.specs.Slices.{Bytes, part, put, over, cleared, equal};
 ghost use Rattle.bits.specs.Bits.{◌⊕◌};
@@ -37,7 +38,7 @@ use round::Again;
 use sets::{Chosen, Set};
 
 // What is opened of a round: the input shares of two parties, each at the start of an array, and what is recomputed.
-#[derive(Drop)]
+#[derive(Clone, Copy)]
 pub struct Opened {
     pub share1: [u8; 32],
     pub share2: [u8; 32],
@@ -203,7 +204,13 @@ fn commit_first(p: Set, seed: &[u8], share: &[u8], again: Again) -> [u8; 64]
 }
 
 // The commitment of party e+1, whose transcript the signature shows, at the start of an array.
-fn commit_second(p: Set, seed: &[u8], share: &[u8], transcript: &[u8], output_share: Block) -> [u8; 64]
+fn commit_second(
+    p: Set,
+    seed: &[u8],
+    share: &[u8],
+    transcript: &[u8],
+    output_share: Block,
+) -> [u8; 64]
     requires { IsSet p }
     ensures { take p.digest result
         ≡ commitment p seed.now share.now transcript.now (bytes_of p.n (block_bits output_share)) }

@@ -1,0 +1,16 @@
+-- `signer::fill` meets its contract.
+use mathlib.Core.Path.{◌≡◌, sym, subst}
+use Prim.Native.Nat.{ℕ, ◌+◌, ◌-◌, ◌≤◌}
+use native.Mathlib.Omega.{arith}
+use Rattle.lowmc.specs.Lent.{cipher_of}
+use Rattle.views.specs.Input.{signed_outputs, signed_commitments, signer_filling}
+use Rattle.room.proofs.HeldLaws.{Held, held_none, held_more, held_length, held_all}
+use Rattle.signer.proofs.PlayLaws.{length-outputs, length-commitments}
+use borrow.Author.Rules.{rules}
+use Rattle.signer.proofs.fill.Given as goal
+
+abbrev pub invariant-loop-t : goal.invariant-loop-t
+invariant-loop-t l = (l.t ≤ l.p.t) × Held l.p l.t (signed_outputs l.p (cipher_of l.p l.keys l.layers l.constants) l.secret l.public l.seeds) (signed_commitments l.p (cipher_of l.p l.keys l.layers l.constants) l.secret l.public l.seeds) l.initial.room l.room
+
+abbrev pub decreases-loop-t : goal.decreases-loop-t
+decreases-loop-t l = l.rounds - l.t

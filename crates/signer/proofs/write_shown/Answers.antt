@@ -1,0 +1,22 @@
+-- `signer::write_shown` meets its contract.
+use mathlib.Core.Path.{ap, ◌∙◌}
+use Rattle.slices.specs.Slices.{put}
+use Rattle.circuit.specs.Round.{next, third}
+use Rattle.shape.specs.Form.{Shown, round_of}
+use Rattle.views.specs.Parties.{party_of}
+use Rattle.signer.proofs.WriteLaws.{number_after, number-last, shown_as}
+use borrow.Author.Rules.{rules}
+use Rattle.signer.proofs.write_shown.Goals as goal
+
+pub returns : goal.returns
+returns c =
+    let start = c in
+    let e = start.args.e in (
+      c.write_parts.ensures.0,
+      λ keys layers constants secret block h.
+          c.write_parts.ensures.1
+          ∙ ap (λ (u : Shown). put start.args.output.now start.args.at (round_of start.args.p e u))
+          (shown_as start.args.p keys layers constants secret block start.args.seeds.now start.args.t e start.args.x _ _ _ h
+          (c.commitment_of-commitment.ensures keys layers constants secret block (third (party_of e)) (number-last e start.requires.3) h)
+          (c.said_of-transcript.ensures (next (party_of e)) (number_after e start.requires.3)) c.shown_share-share.ensures),
+    )

@@ -1,0 +1,21 @@
+-- `verifier::fill` meets its contract.
+use mathlib.Core.Path.{◌≡◌}
+use Prim.Native.Nat.{◌≤◌, ◌<◌, ◌-◌}
+use native.Mathlib.Omega.{arith}
+use Rattle.lowmc.specs.Lent.{cipher_of}
+use Rattle.shape.specs.Form.{form}
+use Rattle.shape.proofs.ReadingLaws.{sound}
+use Rattle.parts.specs.Places.{Stands}
+use Rattle.views.specs.Input.{opened_outputs, opened_commitments, verifier_filling}
+use Rattle.parts.proofs.PlacesLaws.{stands-first}
+use Rattle.room.proofs.HeldLaws.{Held, held_none, held_length}
+use Rattle.verifier.proofs.FillLaws.{outputs-long, commitments-long, located_at, held_step, held_filled}
+use borrow.Author.Rules.{rules}
+use Rattle.verifier.proofs.fill.Given as goal
+
+abbrev pub invariant-loop-t : goal.invariant-loop-t
+invariant-loop-t l = (l.t ≤ l.rounds) × (l.cursor.round ≡ l.t) × Stands l.p l.signature l.cursor
+    × Held l.p l.t (opened_outputs l.p (cipher_of l.p l.keys l.layers l.constants) l.public (form l.p l.signature)) (opened_commitments l.p (cipher_of l.p l.keys l.layers l.constants) l.public (form l.p l.signature)) l.initial.room l.room
+
+abbrev pub decreases-loop-t : goal.decreases-loop-t
+decreases-loop-t l = l.rounds - l.t
