@@ -2,51 +2,73 @@
 // and 2; or the number with which it is refused. A buffer holds more than the longest signature, so that input that it cuts
 // off is refused with the same number as the whole of it.
 #![tactic(auto)]
-ghost use Rattle.std.specs.Prelude.{◌≡◌};
+
+ghost use Rattle.std.specs.Prelude.{◌≡◌, ◌≤◌, length, IfOk};
 ghost use Rattle.layout.specs.Counts.{how_many};
 
-use libc::{STDIN_FILENO, STDOUT_FILENO};
 use sets::Set;
+use std::io;
+use std::io::Read;
 
 // The values that an unpacked form of set 1 starts with.
 const VALUES: usize = Set::L1.t;
+
+// Bytes of a buffer. The longest signature of set 1 has 34032, and its unpacked form 34196.
+const ROOM: usize = 65536;
 
 // How many of the values are v.
 fn count(values: &[u8], v: u8) -> usize
     ensures { result ≡ how_many v values.now }
 {
     let mut n = 0;
-    let mut k = 0;
-    while k < values.len() {
-        if values[k] == v {
+    for value in values {
+        if *value == v {
             n += 1;
         }
-        k += 1;
     }
     n
 }
 
 // A number, and what follows it.
-fn field(n: usize, end: u8) {
-    io::print_decimal(STDOUT_FILENO, n as u64);
-    io::write_all(STDOUT_FILENO, &[end]);
+fn field(rt: &impl Print, n: usize, end: char) -> io::Result<()> {
+    print!(rt; "{n}{end}")
 }
 
-fn main() {
-    let mut input = io::large_buffer();
-    let n = io::read_full(STDIN_FILENO, &mut input);
-    let mut form = io::large_buffer();
+// Fills the buffer from the input, as far as the input goes, and says how many bytes that were.
+fn fill(input: &mut impl Read, buffer: &mut [u8]) -> io::Result<usize>
+    ensures { IfOk result (λ n. n ≤ length buffer.new) }
+{
+    let mut filled = 0;
+    while filled < buffer.len() {
+        let n = input.read(&mut buffer[filled..])?;
+        if n == 0 {
+            break;
+        }
+        filled += n;
+    }
+    Ok(filled)
+}
+
+// The layout of a signature of so many bytes with these values.
+fn print_layout(rt: &impl Print, length: usize, values: &[u8]) -> io::Result<()> {
+    print!(rt; "signature\t1\t")?;
+    field(rt, length, '\n')?;
+    print!(rt; "challenge\t")?;
+    field(rt, count(values, 0), '\t')?;
+    field(rt, count(values, 1), '\t')?;
+    field(rt, count(values, 2), '\n')
+}
+
+fn main(rt: HostRuntime) -> io::Result<()> {
+    let mut input = [0u8; ROOM];
+    let n = fill(&mut rt.reader(), &mut input)?;
+    let mut form = [0u8; ROOM];
     let answer = signature::read(1, &input[..n], &mut form);
+    // The upper half of an answer is the number of a refusal, or 0.
     let refusal = (answer / 0x1_0000_0000) as usize;
     if refusal != 0 {
-        io::write_all(STDOUT_FILENO, b"refused\t");
-        field(refusal, b'\n');
-        return;
+        print!(rt; "refused\t")?;
+        return field(&rt, refusal, '\n');
     }
-    io::write_all(STDOUT_FILENO, b"signature\t1\t");
-    field(n, b'\n');
-    io::write_all(STDOUT_FILENO, b"challenge\t");
-    field(count(&form[..VALUES], 0), b'\t');
-    field(count(&form[..VALUES], 1), b'\t');
-    field(count(&form[..VALUES], 2), b'\n');
+    print_layout(&rt, n, &form[..VALUES])
 }

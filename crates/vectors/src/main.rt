@@ -1,8 +1,17 @@
 // Runs published vectors against the library and prints, for each file, how many cases it has and how many agree.
 #![tactic(auto)]
-ghost use Rattle.std.specs.Prelude.{◌≡◌, ◌+◌, ◌^◌, ◌≤◌, ◌<◌, length};
 
-use libc::STDOUT_FILENO;
+ghost use Rattle.std.specs.Prelude.{◌≡◌, ◌+◌, ◌^◌, ◌≤◌, ◌<◌, length, IfOk, IfSome};
+
+use std::io::Read;
+use std::rt::Files;
+use std::{fs, io};
+
+// Bytes of output in a published case, whose message has fewer.
+const BYTES: usize = 512;
+
+// Bytes of a buffer, which holds more than a file of cases.
+const ROOM: usize = 524288;
 
 // How many cases a file has, and how many of them agree.
 #[derive(Clone, Copy)]
@@ -11,20 +20,22 @@ struct Tally {
     agree: u64,
 }
 
-// The value of a hex digit, or 16 for another byte.
-fn digit(b: u8) -> u8 {
+// The value of a hex digit.
+fn digit(b: u8) -> Option<u8>
+    ensures { IfSome result (λ d. d < 16) }
+{
     match b {
-        48..=57 => b - 48,
-        97..=102 => b - 87,
-        65..=70 => b - 55,
-        _ => 16,
+        b'0'..=b'9' => Some(b - b'0'),
+        b'a'..=b'f' => Some(b - b'a' + 10),
+        b'A'..=b'F' => Some(b - b'A' + 10),
+        _ => None,
     }
 }
 
-// Up to 512 bytes.
+// Bytes, of which the first n are decoded.
 #[derive(Drop)]
 struct Decoded {
-    bytes: [u8; 512],
+    bytes: [u8; BYTES],
     n: usize,
 }
 
@@ -32,25 +43,18 @@ struct Decoded {
 fn decode(text: &[u8]) -> Decoded
     ensures { result.n ≤ length result.bytes }
 {
-    let mut bytes = [0u8; 512];
-    let mut n = 0;
-    while n < 512 {
+    let mut bytes = [0u8; BYTES];
+    for n in 0..BYTES {
         let at = 2 * n;
         if text.len() < at + 2 {
             return Decoded { bytes, n };
         }
-        let high = digit(text[at]);
-        let low = digit(text[at + 1]);
-        if 15 < high {
+        let (Some(high), Some(low)) = (digit(text[at]), digit(text[at + 1])) else {
             return Decoded { bytes, n };
-        }
-        if 15 < low {
-            return Decoded { bytes, n };
-        }
+        };
         bytes[n] = 16 * high + low;
-        n += 1;
     }
-    Decoded { bytes, n }
+    Decoded { bytes, n: BYTES }
 }
 
 // Where b stands first in text at or after from, or the end.
@@ -58,14 +62,12 @@ fn find(text: &[u8], from: usize, b: u8) -> usize
     requires { from ≤ length text.now }
     ensures { (from ≤ result) × (result ≤ length text.now) }
 {
-    let mut i = from;
-    while i < text.len() {
+    for i in from..text.len() {
         if text[i] == b {
             return i;
         }
-        i += 1;
     }
-    i
+    text.len()
 }
 
 // What follows the byte at i.
@@ -82,20 +84,14 @@ fn shake_agrees(set: u64, line: &[u8]) -> bool {
     let space = find(line, 0, b' ');
     let message = decode(line);
     let published = decode(after(line, space));
-    let mut output = [0u8; 512];
-    let n = message.n;
-    let bytes = message.bytes;
-    picnic::picnic_hash(set, &bytes[..n], &mut output);
-    let expected = published.bytes;
-    check::same(&output, &expected)
+    let mut output = [0u8; BYTES];
+    picnic::picnic_hash(set, &message.bytes[..message.n], &mut output);
+    output == published.bytes
 }
 
 // A line that holds a case: not empty, and no remark.
 fn is_case(line: &[u8]) -> bool {
-    if line.len() == 0 {
-        return false;
-    }
-    line[0] != b'#'
+    !line.is_empty() && line[0] != b'#'
 }
 
 impl Tally {
@@ -104,15 +100,9 @@ impl Tally {
         requires { (self.cases + 1 < 2 ^ 64) × (self.agree ≤ self.cases) }
         ensures { (result.cases ≡ self.cases + 1) × (result.agree ≤ self.agree + 1) }
     {
-        if agrees {
-            return Tally {
-                cases: self.cases + 1,
-                agree: self.agree + 1,
-            };
-        }
         Tally {
             cases: self.cases + 1,
-            agree: self.agree,
+            agree: self.agree + u64::from(agrees),
         }
     }
 }
@@ -123,9 +113,10 @@ fn counted(tally: Tally, set: u64, line: &[u8]) -> Tally
     ensures { (result.cases ≤ tally.cases + 1) × (result.agree ≤ result.cases) }
 {
     if is_case(line) {
-        return tally.with(shake_agrees(set, line));
+        tally.with(shake_agrees(set, line))
+    } else {
+        tally
     }
-    tally
 }
 
 // The cases of SHAKE in text, a line each, under the SHAKE of a set.
@@ -140,29 +131,45 @@ fn shake_cases(set: u64, text: &[u8]) -> Tally {
     tally
 }
 
-fn show(name: &[u8], tally: Tally) {
-    io::write_all(STDOUT_FILENO, name);
-    io::write_all(STDOUT_FILENO, b"\t");
-    io::print_decimal(STDOUT_FILENO, tally.cases);
-    io::write_all(STDOUT_FILENO, b" cases\t");
-    io::print_decimal(STDOUT_FILENO, tally.agree);
-    io::write_all(STDOUT_FILENO, b" agree\n");
+fn show(rt: &impl Print, name: &str, tally: Tally) -> io::Result<()> {
+    let Tally { cases, agree } = tally;
+    println!(rt; "{name}\t{cases} cases\t{agree} agree")
 }
 
-// A file of SHAKE cases.
-fn shake_file(name: &[u8], set: u64) {
-    let file = os::open_read(name);
-    if file < 0 {
-        os::fail(name);
-        return;
+// Fills the buffer from the file, as far as the file goes, and says how many bytes that were.
+fn fill(file: &mut impl Read, buffer: &mut [u8]) -> io::Result<usize>
+    ensures { IfOk result (λ n. n ≤ length buffer.new) }
+{
+    let mut filled = 0;
+    while filled < buffer.len() {
+        let n = file.read(&mut buffer[filled..])?;
+        if n == 0 {
+            break;
+        }
+        filled += n;
     }
-    let mut text = [0u8; 524288];
-    let n = io::read_full(file, &mut text);
-    libc::close(file);
-    show(name, shake_cases(set, &text[..n]));
+    Ok(filled)
 }
 
-fn main() {
-    shake_file(b"shake128.txt", 1);
-    shake_file(b"shake256.txt", 2);
+// A buffer of zeros. It is proved for every length, since a proof for ROOM would count that far.
+fn zeros<const N: usize>() -> [u8; N]
+    ensures { length result ≡ N }
+{
+    [0; N]
+}
+
+// A file of SHAKE cases. One that can't be opened is named on standard error, and passed over.
+fn shake_file(rt: &(impl Files + Print + Eprint), name: &str, set: u64) -> io::Result<()> {
+    let mut file = match fs::open(rt, name) {
+        Ok(file) => file,
+        Err(error) => return eprintln!(rt; "{name}: {error}"),
+    };
+    let mut text = zeros::<ROOM>();
+    let n = fill(&mut file, &mut text)?;
+    show(rt, name, shake_cases(set, &text[..n]))
+}
+
+fn main(rt: HostRuntime) -> io::Result<()> {
+    shake_file(&rt, "shake128.txt", 1)?;
+    shake_file(&rt, "shake256.txt", 2)
 }
