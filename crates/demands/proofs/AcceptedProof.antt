@@ -36,27 +36,27 @@ both_pass xs ys t e d = first-append xs ys t ∙ rw (e, d)
 module _ (p : Set) (g : sign.Given) (known : numbered g.set_number ≡ Known p) (s : Passed p g)
     (limit : ℕ) (room : Bytes) (n : Enough g limit room) where
   abbrev es : Bytes
-  es = first_values p (sign.firstBlock p g) g.limit
+  es = first_values p (sign.first_block p g) g.limit
 
   again-read : Reread p (sign.cipher p g) g.secret g.public g.seeds g.message es
   again-read =
       reread (known_set g.set_number p known) g.keys g.layers g.constants g.secret g.public g.seeds g.message es s.pair
-      s.seeds (length-first p (sign.firstBlock p g) g.limit s.enough) (first_small p (sign.firstBlock p g) g.limit)
+      s.seeds (length-first p (sign.first_block p g) g.limit s.enough) (first_small p (sign.first_block p g) g.limit)
 
   abbrev signature : Bytes
-  signature = sign.signatureFor p (sign.cipher p g) g.secret g.public g.seeds es
+  signature = sign.signature_for p (sign.cipher p g) g.secret g.public g.seeds es
 
   -- the recomputed challenge begins with the signer's first block
-  block_again : verify.firstBlock p g.keys g.layers g.constants g.public g.message (form p signature) ≡ sign.firstBlock p g
-  unfolding verify.firstBlock sign.firstBlock
+  block_again : verify.first_block p g.keys g.layers g.constants g.public g.message (form p signature) ≡ sign.first_block p g
+  unfolding verify.first_block sign.first_block
   block_again = ap (h p 1) again-read.run.recomputed
 
   -- 2 to 6 pass
   lengths_pass : first
-      (verify.lengthChecks p (length g.keys) (length g.layers) (length g.constants) (length g.public) (length g.message)
+      (verify.length_checks p (length g.keys) (length g.layers) (length g.constants) (length g.public) (length g.message)
       limit (length room))
       ≡ Fine
-  unfolding verify.lengthChecks first
+  unfolding verify.length_checks first
   lengths_pass =
       rw (
         s.tables,
@@ -67,19 +67,19 @@ module _ (p : Set) (g : sign.Given) (known : numbered g.set_number ≡ Known p) 
       )
 
   -- 8 and 12 pass
-  verdict_passes : first (verify.verdictChecks p (sign.firstBlock p g) limit (values_in p (form p signature))) ≡ Fine
-  unfolding verify.verdictChecks first
+  verdict_passes : first (verify.verdict_checks p (sign.first_block p g) limit (values_in p (form p signature))) ≡ Fine
+  unfolding verify.verdict_checks first
   verdict_passes =
-      let b = sign.firstBlock p g in
+      let b = sign.first_block p g in
       let e : first_values p b limit ≡ es = first_after p b g.limit s.enough limit n.more in
       rw (enough_after p b g.limit s.enough limit n.more, again-read.values, e, equal_self es)
 
   pub all_pass : first (verify.checks p (again g limit room signature)) ≡ Fine
-  unfolding verify.checks verify.lengthChecks read_checks
+  unfolding verify.checks verify.length_checks read_checks
   all_pass = both_pass _ _ tt lengths_pass (both_pass _ _ tt again-read.read (rw block_again verdict_passes))
 
 pub signed_is_accepted : SignedIsAccepted
-unfolding SignedIsAccepted verify.refusalFor sign.signature_of
+unfolding SignedIsAccepted verify.refusal_for sign.signature_of
 signed_is_accepted g number room output s f limit other n =
     let m = made g f in
     rw (answered-bytes g number room output s f m, m.known)

@@ -37,23 +37,23 @@ among : (n lo hi : ℕ) → ((k : ℕ) → lo ≤ k → k ≤ hi → ¬ (n ≡ k
 among n lo hi none k a b = none k (lit≤ a) (lit≤ b)
 
 pub one_block_signs_nothing : OneBlockSignsNothing
-unfolding OneBlockSignsNothing sign.refusalFor sign.checks sign.lengthChecks sign.firstBlock
+unfolding OneBlockSignsNothing sign.refusal_for sign.checks sign.length_checks sign.first_block
 one_block_signs_nothing g k l back room output s none =
     let v = sign_halves g back room output s in
-    let e : sign.refusal g ≡ first (sign.checks l1 g) = ap (λ (n : ℕ). sign.refusalFor (numbered n) g) k in
-    let few : too_few l1 (sign.firstBlock l1 g) g.limit ≡ true = rw l (one-few _) in
+    let e : sign.refusal g ≡ first (sign.checks l1 g) = ap (λ (n : ℕ). sign.refusal_for (numbered n) g) k in
+    let few : too_few l1 (sign.first_block l1 g) g.limit ≡ true = rw l (one-few _) in
     let no = among (back / 2 ^ 32) 1 7 none in
     let later = past (no 5 tt tt) (past (no 6 tt tt) (past (no 7 tt tt) (here few))) in
     let way = past (no 2 tt tt) (past (no 3 tt tt) (past (no 4 tt tt) later)) in
     alone back _ (sign.refusal g) v (sign-writes g) Blocks refl (e ∙ reached (back / 2 ^ 32) Blocks (sign.checks l1 g) way (v.upper ∙ ap number e))
 
 pub one_block_verifies_nothing : OneBlockVerifiesNothing
-unfolding OneBlockVerifiesNothing verify.refusalFor verify.checks verify.lengthChecks read_checks verify.verdictChecks verify.firstBlock
+unfolding OneBlockVerifiesNothing verify.refusal_for verify.checks verify.length_checks read_checks verify.verdict_checks verify.first_block
 one_block_verifies_nothing g k l back room s none nor =
     let v = verify_halves g back room s in
-    let e : verify.refusal g ≡ first (verify.checks l1 g) = ap (λ (n : ℕ). verify.refusalFor (numbered n) g) k in
+    let e : verify.refusal g ≡ first (verify.checks l1 g) = ap (λ (n : ℕ). verify.refusal_for (numbered n) g) k in
     let x = form l1 g.signature in
-    let few : too_few l1 (verify.firstBlock l1 g.keys g.layers g.constants g.public g.message x) g.limit ≡ true = rw l (one-few _) in
+    let few : too_few l1 (verify.first_block l1 g.keys g.layers g.constants g.public g.message x) g.limit ≡ true = rw l (one-few _) in
     let no = among (back / 2 ^ 32) 1 6 none in
     let read = among (back / 2 ^ 32) 9 11 nor in
     let later = past (read 9 tt tt) (past (read 10 tt tt) (past (read 9 tt tt) (past (read 11 tt tt) (here few)))) in
@@ -99,14 +99,14 @@ seeds_checked (Known p) secret public message n =
     (behind-keys (length message) false (keys_other p (length secret) (length public)) (when (too_short (seeds_length p) n) Room ∷ []) refl)
 
 -- signing
-sign_checked : (c : Chosen) (g : sign.Given) → Checked (length g.message) (sign.refusalFor c g)
-unfolding sign.refusalFor sign.checks sign.lengthChecks raised
+sign_checked : (c : Chosen) (g : sign.Given) → Checked (length g.message) (sign.refusal_for c g)
+unfolding sign.refusal_for sign.checks sign.length_checks raised
 sign_checked Unknown g = no_set (length g.message)
 sign_checked (Known p) g = behind-keys (length g.message) _ _ _ refl
 
 -- verifying
-verify_checked : (c : Chosen) (g : verify.Given) → Checked (length g.message) (verify.refusalFor c g)
-unfolding verify.refusalFor verify.checks verify.lengthChecks read_checks verify.verdictChecks raised
+verify_checked : (c : Chosen) (g : verify.Given) → Checked (length g.message) (verify.refusal_for c g)
+unfolding verify.refusal_for verify.checks verify.length_checks read_checks verify.verdict_checks raised
 verify_checked Unknown g = no_set (length g.message)
 verify_checked (Known p) g = behind-keys (length g.message) _ _ _ refl
 

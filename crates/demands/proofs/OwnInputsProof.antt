@@ -52,8 +52,8 @@ written_key_has_halves k keys layers constants secret block before back after s 
 pair-taken : (c : Chosen) (g : sign.Given)
     → ((p : Set) → c ≡ Known p
     → encrypted p g.keys g.layers g.constants g.secret (plaintext p g.public) ≡ ciphertext p g.public)
-    → ¬ (number (sign.refusalFor c g) ≡ 7)
-unfolding sign.refusalFor sign.checks sign.lengthChecks raised
+    → ¬ (number (sign.refusal_for c g) ≡ 7)
+unfolding sign.refusal_for sign.checks sign.length_checks raised
 pair-taken Unknown g h = λ a. omega arith
 pair-taken (Known p) g h = not_raised 6 (sign.checks p g) (rw (h p refl, equal_self (ciphertext p g.public)))
 
@@ -72,8 +72,8 @@ written_key_is_never_refused g block before back after s l e answer room output 
 room-taken : (c : Chosen) (g : sign.Given)
     → ((p : Set) → c ≡ Known p
     → (length g.seeds ≡ seeds_length p) × (room_length p ≤ length g.room) × (longest p ≤ length g.output))
-    → ¬ (number (sign.refusalFor c g) ≡ 6)
-unfolding sign.refusalFor sign.checks sign.lengthChecks raised
+    → ¬ (number (sign.refusal_for c g) ≡ 6)
+unfolding sign.refusal_for sign.checks sign.length_checks raised
 room-taken Unknown g h = λ a. omega arith
 room-taken (Known p) g h =
     let (s, r, o) = h p refl in

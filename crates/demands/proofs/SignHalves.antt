@@ -31,30 +31,30 @@ use Rattle.demands.proofs.HonestRunsProof.{reread}
 pub signed_most : (p : Set) (g : sign.Given) → numbered g.set_number ≡ Known p → Passed p g → length (sign.signature_of p g) ≤ longest p
 unfolding sign.signature_of
 signed_most p g e s =
-    let b = sign.firstBlock p g in
+    let b = sign.first_block p g in
     let es = first_values p b g.limit in
-    let signature = sign.signatureFor p (sign.cipher p g) g.secret g.public g.seeds es in
+    let signature = sign.signature_for p (sign.cipher p g) g.secret g.public g.seeds es in
     let again =
     reread (known_set g.set_number p e) g.keys g.layers g.constants g.secret g.public g.seeds g.message es s.pair
     s.seeds (length-first p b g.limit s.enough) (first_small p b g.limit) in
     omega (arith, (sound p signature again.read).exact, signature-most p (values p signature) (length-values p signature))
 
 pub signed_is_no_longer : SignedIsNoLonger
-unfolding SignedIsNoLonger sign.written sign.signatureBy sign.refusalFor
+unfolding SignedIsNoLonger sign.written sign.signature_by sign.refusal_for
 signed_is_no_longer g p e = go (fine (sign.refusal g)) refl
   where
-    go : (b : Bool) → fine (sign.refusal g) ≡ b → length (cond b (sign.signatureBy (numbered g.set_number) g) []) ≤ longest p
+    go : (b : Bool) → fine (sign.refusal g) ≡ b → length (cond b (sign.signature_by (numbered g.set_number) g) []) ≤ longest p
     go true f =
-        let none : sign.refusalFor (Known p) g ≡ Fine = rw e at (fine_is (sign.refusal g) f) in
+        let none : sign.refusal_for (Known p) g ≡ Fine = rw e at (fine_is (sign.refusal g) f) in
         rw e (signed_most p g e (passed p g none))
     go false f = omega arith
 
 -- and far shorter than 2^32
 written_small : (g : sign.Given) → length (sign.written g) < 2 ^ 32
-unfolding sign.written sign.signatureBy
+unfolding sign.written sign.signature_by
 written_small g = go (fine (sign.refusal g)) refl
   where
-    go : (b : Bool) → fine (sign.refusal g) ≡ b → length (cond b (sign.signatureBy (numbered g.set_number) g) []) < 2 ^ 32
+    go : (b : Bool) → fine (sign.refusal g) ≡ b → length (cond b (sign.signature_by (numbered g.set_number) g) []) < 2 ^ 32
     go true f =
         let m = made g (fine_is (sign.refusal g) f) in
         let most = signed_most m.p g m.known (passed m.p g m.none) in
