@@ -19,7 +19,6 @@ use Rattle.answers.specs.Answers.{first}
 use Rattle.circuit.specs.Lowmc.{Cipher}
 use Rattle.circuit.specs.Round.{Party, party0}
 use Rattle.lowmc.specs.Encrypted.{plaintext, ciphertext}
-use Rattle.hashing.specs.Hashing.{commitment}
 use Rattle.shape.specs.Header.{value_at, values}
 use Rattle.shape.specs.Form.{Shown, form, values_in, salt_in, shown_in}
 use Rattle.shape.specs.Reading.{read_checks}

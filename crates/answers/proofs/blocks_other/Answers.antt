@@ -1,7 +1,6 @@
 -- `answers::blocks_other` meets its contract.
 use Rattle.answers.specs.Conditions.{blocks_other}
 use Rattle.answers.proofs.ConditionsLaws.{other-true, other-false}
-use borrow.Author.Rules.{rules}
 use Rattle.answers.proofs.blocks_other.Goals as goal
 
 pub returns-then-secret-width : goal.returns-then-secret-width

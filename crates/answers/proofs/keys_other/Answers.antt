@@ -1,7 +1,6 @@
 -- `answers::keys_other` meets its contract.
 use Rattle.answers.specs.Conditions.{keys_other}
 use Rattle.answers.proofs.ConditionsLaws.{other-true, other-false}
-use borrow.Author.Rules.{rules}
 use Rattle.answers.proofs.keys_other.Goals as goal
 
 pub returns-then-secret-width : goal.returns-then-secret-width

@@ -1,7 +1,6 @@
 -- `answers::tables_other` meets its contract.
 use Rattle.answers.specs.Conditions.{tables_other}
 use Rattle.answers.proofs.ConditionsLaws.{other-true, other-false}
-use borrow.Author.Rules.{rules}
 use Rattle.answers.proofs.tables_other.Goals as goal
 
 pub returns-then-keys-keys_length : goal.returns-then-keys-keys_length

@@ -1,7 +1,6 @@
 -- `bits::byte` meets its contract.
 use native.Mathlib.Omega.{arith}
 use Rattle.bits.proofs.BytesLaws.{byte_value}
-use borrow.Author.Rules.{rules}
 use Rattle.bits.proofs.byte.Goals as goal
 
 pub overflow_cast-result : goal.overflow_cast-result

@@ -1,7 +1,6 @@
 -- `bits::byte_of` meets its contract.
 use native.Mathlib.Omega.{arith}
 use Rattle.bits.proofs.WordsLaws.{byte_of}
-use borrow.Author.Rules.{rules}
 use Rattle.bits.proofs.byte_of.Goals as goal
 
 pub returns : goal.returns

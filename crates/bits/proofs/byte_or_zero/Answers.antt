@@ -1,7 +1,6 @@
 -- `bits::byte_or_zero` meets its contract.
 use native.Mathlib.Omega.{arith}
 use Rattle.bits.proofs.BytesLaws.{no_byte}
-use borrow.Author.Rules.{rules}
 use Rattle.bits.proofs.byte_or_zero.Goals as goal
 
 pub returns : goal.returns

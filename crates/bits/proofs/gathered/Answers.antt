@@ -2,7 +2,6 @@
 use native.Mathlib.Omega.{arith}
 use mathlib.Core.Path.{◌∙◌}
 use Rattle.bits.proofs.RowsLaws.{gathered_byte}
-use borrow.Author.Rules.{rules}
 use Rattle.bits.proofs.gathered.Goals as goal
 
 pub returns : goal.returns

@@ -1,7 +1,6 @@
 -- `bits::half` meets its contract.
 use native.Mathlib.Omega.{arith}
 use Rattle.bits.proofs.BytesLaws.{four_bytes}
-use borrow.Author.Rules.{rules}
 use Rattle.bits.proofs.half.Goals as goal
 
 pub returns : goal.returns

@@ -1,7 +1,6 @@
 -- `bits::half_low` meets its contract.
 use native.Mathlib.Omega.{arith}
 use Rattle.bits.proofs.BytesLaws.{four_low}
-use borrow.Author.Rules.{rules}
 use Rattle.bits.proofs.half_low.Goals as goal
 
 pub returns : goal.returns

@@ -1,5 +1,5 @@
 -- `bits::last_word` meets its contract.
-use Prim.Native.Nat.{ℕ, ◌≤◌, ◌-◌, ◌*◌}
+use Prim.Native.Nat.{ℕ, ◌*◌}
 use mathlib.Core.Path.{◌≡◌, ◌∙◌, ap}
 use native.Mathlib.Omega.{arith}
 use Rattle.bits.specs.Bits.{from}

@@ -1,13 +1,8 @@
 -- `bits::last_word` meets its contract.
-use Prim.Native.Nat.{ℕ, ◌≤◌, ◌-◌, ◌*◌}
-use mathlib.Core.Path.{◌≡◌, ◌∙◌, ap}
-use native.Mathlib.Omega.{arith}
+use Prim.Native.Nat.{◌≤◌, ◌-◌, ◌*◌}
+use mathlib.Core.Path.{◌≡◌}
 use Rattle.bits.specs.Bits.{from}
 use Rattle.bits.specs.Bytes.{bits_of, value}
-use Rattle.bits.proofs.BytesLaws.{byte_more}
-use Rattle.bits.proofs.NumberLaws.{value_none, value_room}
-use Rattle.bits.proofs.WordsLaws.{holds-value}
-use borrow.Author.Rules.{rules}
 use Rattle.bits.proofs.last_word.Given as goal
 
 abbrev pub invariant-loop-k : goal.invariant-loop-k

@@ -1,6 +1,5 @@
 -- `bits::load_low` meets its contract.
 use Rattle.bits.proofs.TurnedLaws.{load_low_holds}
-use borrow.Author.Rules.{rules}
 use Rattle.bits.proofs.load_low.Goals as goal
 
 pub returns : goal.returns

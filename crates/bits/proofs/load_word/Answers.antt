@@ -1,6 +1,5 @@
 -- `bits::load_word` meets its contract.
 use Rattle.bits.proofs.WordsLaws.{load_holds}
-use borrow.Author.Rules.{rules}
 use Rattle.bits.proofs.load_word.Goals as goal
 
 pub returns : goal.returns

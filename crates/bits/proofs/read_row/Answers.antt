@@ -1,7 +1,6 @@
 -- `bits::read_row` meets its contract.
 use native.Mathlib.Omega.{arith}
 use Rattle.bits.proofs.RowsLaws.{row_read}
-use borrow.Author.Rules.{rules}
 use Rattle.bits.proofs.read_row.Goals as goal
 
 pub returns : goal.returns

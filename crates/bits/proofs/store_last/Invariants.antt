@@ -1,15 +1,10 @@
 -- `bits::store_last` meets its contract.
-use native.Mathlib.Omega.{arith}
-use mathlib.Core.Path.{◌≡◌, ◌∙◌, ap}
-use mathlib.Core.List.{List}
-use Prim.Native.Nat.{ℕ, ◌≤◌, ◌+◌, ◌-◌}
-use lib.ListN.{length, set, length-set}
+use mathlib.Core.Path.{◌≡◌}
+use Prim.Native.Nat.{◌≤◌, ◌-◌}
+use lib.ListN.{length}
 use Rattle.slices.specs.Slices.{put}
 use Rattle.bits.specs.Bytes.{bytes}
 use Rattle.bits.specs.Words.{word_bits}
-use Rattle.bits.proofs.BytesLaws.{put_byte, put_no_bytes}
-use Rattle.bits.proofs.WordsLaws.{byte_of}
-use borrow.Author.Rules.{rules}
 use Rattle.bits.proofs.store_last.Given as goal
 
 abbrev pub invariant-loop-k : goal.invariant-loop-k

@@ -5,7 +5,6 @@ use mathlib.Core.Path.{◌∙◌, ap, sym}
 use Prim.Native.Nat.{ℕ, ◌%◌}
 use lib.ListN.{length-set}
 use Rattle.bits.proofs.WordsLaws.{eight_stores}
-use borrow.Author.Rules.{rules}
 use Rattle.bits.proofs.store_word.Goals as goal
 
 pub bounds-s-at-2 : goal.bounds-s-at-2

@@ -1,6 +1,5 @@
 -- `bits::turn` meets its contract.
 use Rattle.bits.proofs.TurnedLaws.{turn_holds}
-use borrow.Author.Rules.{rules}
 use Rattle.bits.proofs.turn.Goals as goal
 
 pub returns : goal.returns

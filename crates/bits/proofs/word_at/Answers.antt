@@ -1,7 +1,6 @@
 -- `bits::word_at` meets its contract.
 use native.Mathlib.Omega.{arith}
 use Rattle.bits.proofs.WordsLaws.{no_bytes}
-use borrow.Author.Rules.{rules}
 use Rattle.bits.proofs.word_at.Goals as goal
 
 pub returns-then-s-at : goal.returns-then-s-at

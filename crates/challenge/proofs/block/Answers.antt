@@ -1,7 +1,6 @@
 -- `challenge::block` meets its contract.
 use mathlib.Core.List.{[], ◌∷◌}
 use Rattle.hashing.proofs.HashingLaws.{fed_more}
-use borrow.Author.Rules.{rules}
 use Rattle.challenge.proofs.block.Goals as goal
 
 pub returns : goal.returns

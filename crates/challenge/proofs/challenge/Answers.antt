@@ -1,26 +1,20 @@
 -- `challenge::challenge` meets its contract.
 use native.Mathlib.Omega.{arith}
-use mathlib.Core.Path.{◌≡◌, refl, sym, ap, ◌∙◌, subst}
-use mathlib.Core.Bool.{false}
+use mathlib.Core.Path.{refl, sym, ap, ◌∙◌, subst}
 use Prim.Native.Nat.{ℕ, ◌≤◌}
-use lib.ListN.{length, replicate}
+use lib.ListN.{length}
 use lib.Seq.{length-take-le}
 use mir.Facts.{Fits-below}
 use Rattle.slices.specs.Slices.{Bytes, over}
 use Rattle.sets.specs.declared.Set.{Set}
-use Rattle.sets.specs.declared.Chosen.TheVariants.{Known}
-use Rattle.sets.specs.Sets.{IsSet, numbered}
+use Rattle.sets.specs.Sets.{IsSet}
 use Rattle.sets.proofs.Each.{known_set, most}
 use Rattle.answers.specs.declared.Refusal.TheVariants.{Fine, NoSet, Limit, Room, Blocks}
 use Rattle.answers.specs.Answers.{answer}
-use Rattle.answers.specs.Conditions.{limit_out}
 use Rattle.answers.proofs.OutcomeLaws.{promise_refused, promise_given}
-use Rattle.hashing.specs.Hashing.{h}
-use Rattle.challenge.specs.Filling.{Fills}
 use Rattle.challenge.proofs.BlocksLaws.{length-first}
 use Rattle.challenge.proofs.FillingLaws.{fills_short, fills_full, fills_front}
 use Rattle.challenge.proofs.ChallengeCallLaws.{challenged_no_set, challenged-limit, challenged-room, challenged-few, challenged-given}
-use borrow.Author.Rules.{rules}
 use Rattle.challenge.proofs.challenge.Goals as goal
 
 -- the array of values is long enough

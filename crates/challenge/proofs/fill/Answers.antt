@@ -1,9 +1,7 @@
 -- `challenge::fill` meets its contract.
 use native.Mathlib.Omega.{arith}
 use mathlib.Core.Path.{◌≡◌, sym, ap, ◌∙◌}
-use mathlib.Core.Logic.{⊎_elim}
-use mathlib.Core.List.{◌++◌}
-use Prim.Native.Nat.{◌*◌, ◌-◌, ◌≤◌, ◌<◌}
+use Prim.Native.Nat.{◌*◌, ◌≤◌, ◌<◌}
 use native.Mathlib.Numerals.{add-one}
 use lib.ListN.{length, take}
 use lib.Seq.{length-take-le}
@@ -13,10 +11,9 @@ use Rattle.sets.specs.Sets.{IsSet}
 use Rattle.sets.proofs.Each.{each, most}
 use Rattle.hashing.specs.Hashing.{h}
 use Rattle.hashing.proofs.HashingLaws.{digest_fits}
-use Rattle.challenge.specs.Pairs.{values_to}
 use Rattle.challenge.specs.Blocks.{chain, stream_values}
 use Rattle.challenge.proofs.BlocksLaws.{chain_first, chain_next, in_none, in_block}
-use Rattle.challenge.proofs.FillingLaws.{Filling, Ended, filling-none, filling-room, filling-start, filling_skip, filling_store, ended_all, ended_at, ended_size, ended_short, ended_full}
+use Rattle.challenge.proofs.FillingLaws.{Ended, filling-none, filling-room, filling-start, filling_skip, filling_store, ended_all, ended_at, ended_short, ended_full}
 use borrow.Author.Rules.{rules}
 use Rattle.challenge.proofs.fill.Goals as goal
 use Rattle.challenge.proofs.fill.Goals.{then-v-lt3+else-got-t, else-v-lt3, else-reading-test, then-reading-test+then-loop-j-test+then-v-lt3+then-got-t}

@@ -1,22 +1,12 @@
 -- `challenge::fill` meets its contract.
-use native.Mathlib.Omega.{arith}
-use mathlib.Core.Path.{◌≡◌, sym, ap, ◌∙◌}
-use mathlib.Core.Logic.{⊎_elim}
+use mathlib.Core.Path.{◌≡◌}
 use mathlib.Core.List.{◌++◌}
-use Prim.Native.Nat.{◌*◌, ◌-◌, ◌≤◌, ◌<◌}
-use native.Mathlib.Numerals.{add-one}
+use Prim.Native.Nat.{◌-◌, ◌≤◌}
 use lib.ListN.{length, take}
-use lib.Seq.{length-take-le}
 use Rattle.slices.specs.Slices.{Bytes}
-use Rattle.sets.specs.declared.Set.{Set}
-use Rattle.sets.proofs.Each.{each, most}
-use Rattle.hashing.specs.Hashing.{h}
-use Rattle.hashing.proofs.HashingLaws.{digest_fits}
 use Rattle.challenge.specs.Pairs.{values_to}
 use Rattle.challenge.specs.Blocks.{chain, stream_values}
-use Rattle.challenge.proofs.BlocksLaws.{chain_first, chain_next, in_none, in_block}
-use Rattle.challenge.proofs.FillingLaws.{Filling, Ended, filling-none, filling-room, filling-start, filling_skip, filling_store, ended_all, ended_at, ended_size, ended_short, ended_full}
-use borrow.Author.Rules.{rules}
+use Rattle.challenge.proofs.FillingLaws.{Filling}
 use Rattle.challenge.proofs.fill.Given as goal
 
 -- of block k the first j pairs are read: whatever was written before the block, its values stand behind that

@@ -2,7 +2,6 @@
 use mathlib.Core.Path.{sym, ◌∙◌}
 use lib.Seq.{length-take-le}
 use Rattle.hashing.proofs.HashingLaws.{digest_fits, front_is, h-given}
-use borrow.Author.Rules.{rules}
 use Rattle.challenge.proofs.first_block.Goals as goal
 
 pub slice_bounds-block-end : goal.slice_bounds-block-end

@@ -1,6 +1,5 @@
 -- `challenge::pair` meets its contract.
 use Rattle.challenge.proofs.PairsLaws.{pair_is}
-use borrow.Author.Rules.{rules}
 use Rattle.challenge.proofs.pair.Goals as goal
 
 pub returns : goal.returns

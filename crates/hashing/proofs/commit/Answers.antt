@@ -5,7 +5,6 @@ use lib.Seq.{length-take-le}
 use Rattle.slices.specs.Slices.{Bytes}
 use Rattle.hashing.specs.Hashing.{h, view, commitment}
 use Rattle.hashing.proofs.HashingLaws.{digest_fits, front_long, front_length, front_is}
-use borrow.Author.Rules.{rules}
 use Rattle.hashing.proofs.commit.Goals as goal
 
 pub slice_bounds-d-end : goal.slice_bounds-d-end

@@ -7,7 +7,6 @@ use Rattle.shake.specs.declared.Sponge.{Sponge}
 use Rattle.shake.specs.Sponge.{absorbed}
 use Rattle.hashing.specs.Hashing.{kdf, derived_seeds}
 use Rattle.hashing.proofs.HashingLaws.{rated, fed_more, kdf-given, fed_seeds}
-use borrow.Author.Rules.{rules}
 use Rattle.hashing.proofs.derive.Goals as goal
 
 pub overflow_cast-width : goal.overflow_cast-width

@@ -1,7 +1,6 @@
 -- `hashing::digest` meets its contract.
 use mathlib.Core.Path.{◌∙◌}
 use Rattle.hashing.proofs.HashingLaws.{fed_more, h-given}
-use borrow.Author.Rules.{rules}
 use Rattle.hashing.proofs.digest.Goals as goal
 
 pub returns : goal.returns

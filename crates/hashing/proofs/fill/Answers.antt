@@ -3,7 +3,6 @@ use mathlib.Core.Path.{◌∙◌, ap}
 use Rattle.shake.specs.declared.Sponge.{Sponge}
 use Rattle.shake.specs.Sponge.{absorbed}
 use Rattle.hashing.proofs.HashingLaws.{rated, kdf-given}
-use borrow.Author.Rules.{rules}
 use Rattle.hashing.proofs.fill.Goals as goal
 
 pub new-requires : goal.new-requires

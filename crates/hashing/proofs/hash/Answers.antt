@@ -3,15 +3,12 @@ use native.Mathlib.Omega.{arith}
 use mathlib.Core.Path.{◌≡◌, refl, sym, ap, ◌∙◌}
 use Prim.Native.Nat.{ℕ}
 use lib.ListN.{length}
-use Rattle.sets.specs.Sets.{numbered}
-use Rattle.sets.specs.declared.Chosen.TheVariants.{Known}
 use Rattle.sets.proofs.Each.{known_set}
 use Rattle.slices.proofs.SliceLaws.{over-whole}
 use Rattle.answers.specs.declared.Refusal.TheVariants.{Fine, NoSet, Room}
 use Rattle.answers.specs.Answers.{answer}
 use Rattle.answers.proofs.OutcomeLaws.{promise_refused, promise_given}
 use Rattle.hashing.proofs.HashCallLaws.{hashed_no_set, hashed_too_long, hashed-given}
-use borrow.Author.Rules.{rules}
 use Rattle.hashing.proofs.hash.Goals as goal
 
 pub returns-in_default : goal.returns-in_default

@@ -4,7 +4,6 @@ use mathlib.Core.List.{[], ◌∷◌}
 use Rattle.shake.specs.declared.Sponge.{Sponge}
 use Rattle.shake.specs.Sponge.{absorbed}
 use Rattle.hashing.proofs.HashingLaws.{rated}
-use borrow.Author.Rules.{rules}
 use Rattle.hashing.proofs.prefixed.Goals as goal
 
 pub new-requires : goal.new-requires

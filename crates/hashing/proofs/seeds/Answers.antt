@@ -4,9 +4,7 @@ use mathlib.Core.Path.{◌≡◌, refl, sym, ap, ◌∙◌, subst}
 use Prim.Native.Nat.{ℕ, ◌≤◌}
 use lib.ListN.{length}
 use lib.Seq.{length-take-le}
-use borrow.Author.Tests.{not-true, not-false}
 use Rattle.sets.specs.declared.Chosen.TheVariants.{Known}
-use Rattle.sets.specs.Sets.{numbered}
 use Rattle.sets.specs.Lengths.{seeds_length}
 use Rattle.sets.proofs.Each.{known_set, most}
 use Rattle.bits.specs.Bytes.{width}
@@ -15,7 +13,6 @@ use Rattle.answers.specs.Answers.{answer}
 use Rattle.answers.proofs.OutcomeLaws.{promise_refused, promise_given}
 use Rattle.hashing.proofs.HashingLaws.{front_over}
 use Rattle.hashing.proofs.SeedsCallLaws.{seeded_no_set, seeded-refused, seeded-given, seeds_fit}
-use borrow.Author.Rules.{rules}
 use mathlib.Core.Bool.{true}
 use Rattle.slices.specs.Slices.{Bytes}
 use Rattle.sets.specs.declared.Set.{Set}

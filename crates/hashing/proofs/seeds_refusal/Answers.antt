@@ -4,7 +4,6 @@ use Prim.Native.Nat.{ℕ, ◌<◌, ◌≤◌}
 use borrow.Author.Tests.{lt-ltb, le-ltb}
 use Rattle.answers.specs.Answers.{first}
 use Rattle.hashing.specs.SeedsCall.{seeds_checks}
-use borrow.Author.Rules.{rules}
 use Rattle.hashing.proofs.seeds_refusal.Goals as goal
 
 pub returns-then-keys_other : goal.returns-then-keys_other

@@ -3,7 +3,6 @@ use native.Mathlib.Omega.{arith}
 use mathlib.Core.Path.{◌∙◌}
 use lib.ListN.{length}
 use Rattle.hashing.proofs.HashingLaws.{rated, fed_first, fed_more, kdf-given, fed_tape}
-use borrow.Author.Rules.{rules}
 use Rattle.hashing.proofs.tape_from.Goals as goal
 
 pub new-requires : goal.new-requires

@@ -2,7 +2,6 @@
 use mathlib.Core.Path.{◌∙◌}
 use mathlib.Core.List.{◌++◌}
 use Rattle.hashing.proofs.HashingLaws.{fed_more, h-given, fed_view}
-use borrow.Author.Rules.{rules}
 use Rattle.hashing.proofs.view_digest.Goals as goal
 
 pub returns : goal.returns

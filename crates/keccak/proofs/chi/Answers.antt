@@ -1,6 +1,5 @@
 -- `keccak::chi` meets its contract: lane by lane, both sides are the same term.
 use mathlib.Core.Path.{refl}
-use borrow.Author.Rules.{rules}
 use Rattle.keccak.specs.Lanes.{chi}
 use Rattle.keccak.proofs.chi.Goals as goal
 

@@ -1,6 +1,6 @@
 -- `keccak::constant` meets its contract: each arm is the number that the register gives, which is computed.
 use mathlib.Core.Path.{◌≡◌, refl, sym, ap, ◌∙◌}
-use Prim.Native.Nat.{ℕ, zero, suc, ◌<◌, ◌≤◌}
+use Prim.Native.Nat.{ℕ}
 use native.Mathlib.Omega.{arith}
 use Rattle.bits.specs.Bits.{◌⊻◌}
 use Rattle.keccak.specs.Lanes.{round_constant}

@@ -1,9 +1,7 @@
 -- `keccak::permute` meets its contract. The invariant: i rounds are done.
 use mathlib.Core.Path.{◌≡◌}
-use Prim.Native.Nat.{◌-◌, ◌≤◌}
 use native.Mathlib.Omega.{arith}
-use borrow.Author.Rules.{rules}
-use Rattle.keccak.specs.Lanes.{rounds, permuted}
+use Rattle.keccak.specs.Lanes.{permuted}
 use Rattle.keccak.proofs.LanesLaws.{rounds-none, rounds-more}
 use Rattle.keccak.proofs.permute.Goals as goal
 

@@ -1,6 +1,5 @@
 -- `keccak::rho_pi` meets its contract: lane by lane, both sides are the same term.
 use mathlib.Core.Path.{refl}
-use borrow.Author.Rules.{rules}
 use Rattle.keccak.specs.Lanes.{rho, pi}
 use Rattle.keccak.proofs.rho_pi.Goals as goal
 

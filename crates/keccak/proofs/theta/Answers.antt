@@ -1,6 +1,5 @@
 -- `keccak::theta` meets its contract: lane by lane, both sides are the same term.
 use mathlib.Core.Path.{refl}
-use borrow.Author.Rules.{rules}
 use Rattle.keccak.specs.Lanes.{theta}
 use Rattle.keccak.proofs.theta.Goals as goal
 

@@ -1,7 +1,6 @@
 -- `lowmc::constant` meets its contract.
 use native.Mathlib.Omega.{arith}
 use Rattle.lowmc.proofs.LentLaws.{constant_in, constant_small, constant_of_lem}
-use borrow.Author.Rules.{rules}
 use Rattle.lowmc.proofs.constant.Goals as goal
 
 pub overflow_mul-at : goal.overflow_mul-at

@@ -4,7 +4,6 @@ use Rattle.bits.specs.Words.{block_bits}
 use Rattle.sets.specs.Lengths as lengths
 use Rattle.lowmc.proofs.LentLaws.{block_small, output-small}
 use Rattle.lowmc.proofs.EncryptedLaws.{stored_of, start-written}
-use borrow.Author.Rules.{rules}
 use Rattle.lowmc.proofs.encrypt.Goals as goal
 
 pub load-key-requires : goal.load-key-requires

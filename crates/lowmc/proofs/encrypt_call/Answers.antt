@@ -1,12 +1,9 @@
 -- `lowmc::encrypt_call` meets its contract.
 use native.Mathlib.Omega.{arith}
-use mathlib.Core.Path.{◌≡◌, refl, sym, ap, ◌∙◌, subst}
+use mathlib.Core.Path.{refl, sym, ap, ◌∙◌, subst}
 use Prim.Native.Nat.{ℕ, ◌≤◌}
 use lib.ListN.{length}
-use borrow.Author.Tests.{not-true, not-false}
 use Rattle.bits.specs.Bytes.{width}
-use Rattle.sets.specs.declared.Chosen.TheVariants.{Known}
-use Rattle.sets.specs.Sets.{numbered}
 use Rattle.sets.specs.Lengths.{w}
 use Rattle.sets.proofs.Each.{known_set, most}
 use Rattle.answers.specs.declared.Refusal.TheVariants.{Fine, NoSet}
@@ -14,7 +11,6 @@ use Rattle.answers.specs.Answers.{answer}
 use Rattle.answers.proofs.OutcomeLaws.{promise_refused, promise_given}
 use Rattle.lowmc.proofs.EncryptedLaws.{length-encrypted}
 use Rattle.lowmc.proofs.CallsLaws.{passed, lent, encrypt_no_set, encrypt-refused, encrypt-given}
-use borrow.Author.Rules.{rules}
 use Rattle.lowmc.proofs.encrypt_call.Goals as goal
 
 pub returns-in_default : goal.returns-in_default

@@ -1,10 +1,7 @@
 -- `lowmc::encryption` meets its contract.
 use native.Mathlib.Omega.{arith}
 use mathlib.Core.Path.{◌≡◌}
-use Prim.Native.Nat.{◌-◌, ◌≤◌}
-use Rattle.bits.specs.Bits.{Bits}
 use Rattle.bits.specs.Words.{block_bits}
-use Rattle.circuit.specs.Lowmc.{start, state_after}
 use Rattle.circuit.proofs.LowmcLaws.{state-none, state-more, state-last}
 use Rattle.lowmc.specs.Lent.{cipher_of}
 use Rattle.lowmc.proofs.EncryptedLaws.{start_of}

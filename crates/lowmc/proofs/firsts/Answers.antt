@@ -1,6 +1,5 @@
 -- `lowmc::firsts` meets its contract.
 use Rattle.lowmc.proofs.LaneLaws.{starts-holds}
-use borrow.Author.Rules.{rules}
 use Rattle.lowmc.proofs.firsts.Goals as goal
 
 pub returns : goal.returns

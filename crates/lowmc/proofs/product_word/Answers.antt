@@ -5,7 +5,6 @@ use native.Mathlib.Nat.{mul-le-mul_right}
 use Rattle.bits.specs.Words.{block_bits}
 use Rattle.lowmc.specs.Lent.{row}
 use Rattle.lowmc.proofs.ProductLaws.{word_of_rows, no_rows}
-use borrow.Author.Rules.{rules}
 use Rattle.lowmc.proofs.product_word.Goals as goal
 
 pub returns-then-w-g : goal.returns-then-w-g

@@ -2,7 +2,6 @@
 use native.Mathlib.Omega.{arith}
 use Rattle.bits.specs.Words.{block_bits}
 use Rattle.lowmc.proofs.LentLaws.{first_in, matrix_in, rows_in, product_of}
-use borrow.Author.Rules.{rules}
 use Rattle.lowmc.proofs.products.Goals as goal
 
 pub overflow_mul-at : goal.overflow_mul-at

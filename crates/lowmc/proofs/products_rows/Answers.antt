@@ -6,7 +6,6 @@ use Rattle.bits.proofs.WordsLaws.{four_words}
 use Rattle.circuit.specs.Matrices.{product}
 use Rattle.circuit.proofs.MatricesLaws.{product_past}
 use Rattle.lowmc.specs.Lent.{row}
-use borrow.Author.Rules.{rules}
 use Rattle.lowmc.proofs.products_rows.Goals as goal
 
 pub returns : goal.returns

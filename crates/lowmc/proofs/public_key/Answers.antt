@@ -1,6 +1,5 @@
 -- `lowmc::public_key` meets its contract.
 use Rattle.lowmc.proofs.EncryptedLaws.{key_written}
-use borrow.Author.Rules.{rules}
 use Rattle.lowmc.proofs.public_key.Goals as goal
 
 pub returns : goal.returns

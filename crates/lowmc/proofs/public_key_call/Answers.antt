@@ -1,19 +1,15 @@
 -- `lowmc::public_key_call` meets its contract.
 use native.Mathlib.Omega.{arith}
-use mathlib.Core.Path.{◌≡◌, refl, sym, ap, ◌∙◌, subst}
+use mathlib.Core.Path.{refl, sym, ap, ◌∙◌, subst}
 use Prim.Native.Nat.{ℕ, ◌≤◌}
 use lib.ListN.{length}
-use borrow.Author.Tests.{not-true, not-false}
 use Rattle.bits.specs.Bytes.{width}
-use Rattle.sets.specs.declared.Chosen.TheVariants.{Known}
-use Rattle.sets.specs.Sets.{numbered}
 use Rattle.sets.specs.Lengths.{public_length}
 use Rattle.sets.proofs.Each.{known_set, most}
 use Rattle.answers.specs.declared.Refusal.TheVariants.{Fine, NoSet}
 use Rattle.answers.specs.Answers.{answer}
 use Rattle.answers.proofs.OutcomeLaws.{promise_refused, promise_given}
 use Rattle.lowmc.proofs.CallsLaws.{passed, lent, public_no_set, public-refused, public-given, length-public}
-use borrow.Author.Rules.{rules}
 use Rattle.lowmc.proofs.public_key_call.Goals as goal
 
 pub returns-in_default : goal.returns-in_default

@@ -3,7 +3,6 @@ use mathlib.Core.Path.{sym, ◌∙◌}
 use borrow.Author.Tests.{lt-ltb, le-ltb}
 use Rattle.answers.specs.Answers.{first}
 use Rattle.lowmc.specs.Calls.{lowmc_checks}
-use borrow.Author.Rules.{rules}
 use Rattle.lowmc.proofs.refusal.Goals as goal
 
 pub returns-then-tables_other : goal.returns-then-tables_other

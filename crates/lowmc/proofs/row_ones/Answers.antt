@@ -5,7 +5,6 @@ use Rattle.bits.specs.Bits.{Bits}
 use Rattle.bits.specs.Bytes.{bits_of}
 use Rattle.bits.specs.Inner.{low_bits}
 use Rattle.lowmc.proofs.ProductLaws.{two-words, three-words, four_words, of_width}
-use borrow.Author.Rules.{rules}
 use Rattle.lowmc.proofs.row_ones.Goals as goal
 
 pub returns-then-w-eq16 : goal.returns-then-w-eq16

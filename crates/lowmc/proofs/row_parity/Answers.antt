@@ -1,6 +1,5 @@
 -- `lowmc::row_parity` meets its contract.
 use Rattle.lowmc.proofs.ProductLaws.{low_digit}
-use borrow.Author.Rules.{rules}
 use Rattle.lowmc.proofs.row_parity.Goals as goal
 
 pub returns : goal.returns

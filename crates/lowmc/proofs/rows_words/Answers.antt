@@ -1,14 +1,8 @@
 -- `lowmc::rows_words` meets its contract.
 use native.Mathlib.Omega.{arith}
-use mathlib.Core.Path.{◌≡◌}
-use Prim.Native.Nat.{ℕ, ◌+◌, ◌*◌, ◌-◌, ◌≤◌}
-use Rattle.bits.specs.Bits.{from}
-use Rattle.bits.specs.Bytes.{value}
+use Prim.Native.Nat.{◌+◌, ◌*◌}
 use Rattle.bits.specs.Words.{block_bits}
-use Rattle.bits.specs.Inner.{low_bits}
 use Rattle.bits.proofs.NumberLaws.{value_none}
-use Rattle.circuit.specs.Matrices.{row_parity}
-use Rattle.lowmc.specs.Lent.{row}
 use Rattle.lowmc.proofs.ProductLaws.{row-digit, rows_for, value-more, value_space, value-fits, value-whole}
 use Rattle.lowmc.proofs.LentLaws.{row_room, part-long}
 use native.Mathlib.Nat.{mul-le-mul_left}

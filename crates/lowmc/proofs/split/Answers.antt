@@ -1,7 +1,6 @@
 -- `lowmc::split` meets its contract.
 use Rattle.bits.proofs.WordsLaws.{holds_self}
 use Rattle.lowmc.proofs.LaneLaws.{from-holds, lane-holds}
-use borrow.Author.Rules.{rules}
 use Rattle.lowmc.proofs.split.Goals as goal
 
 pub returns : goal.returns

@@ -6,7 +6,6 @@ use Rattle.bits.specs.Bits.{Bits, ◌⊕◌}
 use Rattle.bits.specs.Words.{block_bits}
 use Rattle.sets.specs.Lengths.{w}
 use Rattle.lowmc.proofs.LentLaws.{matrix-room}
-use borrow.Author.Rules.{rules}
 use Rattle.lowmc.proofs.start_both.Goals as goal
 
 pub products-requires : goal.products-requires

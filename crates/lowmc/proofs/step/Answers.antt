@@ -1,7 +1,6 @@
 -- `lowmc::step` meets its contract.
 use Rattle.bits.specs.Words.{block_bits}
 use Rattle.lowmc.proofs.EncryptedLaws.{step_of}
-use borrow.Author.Rules.{rules}
 use Rattle.lowmc.proofs.step.Goals as goal
 
 pub returns : goal.returns

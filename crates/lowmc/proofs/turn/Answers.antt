@@ -6,7 +6,6 @@ use Rattle.sets.specs.Lengths.{w}
 use Rattle.lowmc.specs.Lent.{matrix_of}
 use Rattle.lowmc.proofs.LentLaws.{matrix-room}
 use Rattle.lowmc.proofs.EncryptedLaws.{turn_of}
-use borrow.Author.Rules.{rules}
 use Rattle.lowmc.proofs.turn.Goals as goal
 
 pub product-requires : goal.product-requires

@@ -6,7 +6,6 @@ use Rattle.sets.specs.Lengths.{w}
 use Rattle.lowmc.specs.Lent.{matrix_of}
 use Rattle.lowmc.proofs.EncryptedLaws.{turn_of}
 use Rattle.lowmc.proofs.LentLaws.{matrix-room}
-use borrow.Author.Rules.{rules}
 use Rattle.lowmc.proofs.turn_both.Goals as goal
 
 pub products-l-requires : goal.products-l-requires

@@ -1,7 +1,5 @@
 -- `parts::all_values` meets its contract.
-use Prim.Native.Nat.{◌-◌}
-use Rattle.parts.proofs.HeadLaws.{Valued, valued_none, valued_more, valued_all, valued_fails, value_inside}
-use borrow.Author.Rules.{rules}
+use Rattle.parts.proofs.HeadLaws.{valued_none, valued_more, valued_all, valued_fails, value_inside}
 use Rattle.parts.proofs.all_values.Goals as goal
 
 pub loop-k-init : goal.loop-k-init

@@ -3,7 +3,6 @@ use mathlib.Core.Path.{sym, ◌∙◌}
 use native.Mathlib.Omega.{arith}
 use Rattle.shape.proofs.ReadingLaws.{read_short, read_header, read_length, read-padding, read-fine}
 use Rattle.shape.proofs.SetFacts.{header_length≤}
-use borrow.Author.Rules.{rules}
 use Rattle.parts.proofs.check.Goals as goal
 
 pub overflow_add-header : goal.overflow_add-header

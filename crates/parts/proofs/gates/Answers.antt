@@ -2,7 +2,6 @@
 use Prim.Native.Nat.{◌*◌}
 use Rattle.sets.specs.declared.Set.{Set}
 use Rattle.sets.proofs.Each.{fits_set}
-use borrow.Author.Rules.{rules}
 use Rattle.parts.proofs.gates.Goals as goal
 
 pub overflow_mul-result : goal.overflow_mul-result

@@ -7,7 +7,6 @@ use Rattle.bits.specs.Bytes.{value}
 use Rattle.bits.proofs.NumberLaws.{value_lt}
 use Rattle.shape.specs.Header.{pair_bits}
 use Rattle.shape.proofs.HeaderLaws.{byte_of_pairs}
-use borrow.Author.Rules.{rules}
 use Rattle.parts.proofs.header_byte.Goals as goal
 
 -- a pair is below four

@@ -2,7 +2,6 @@
 use native.Mathlib.Omega.{arith}
 use Rattle.shape.proofs.SetFacts.{t≤, some-rounds}
 use Rattle.parts.proofs.HeadLaws.{header_tested, header_failed, header_inside}
-use borrow.Author.Rules.{rules}
 use Rattle.parts.proofs.header_wrong.Goals as goal
 
 pub overflow_mul-p : goal.overflow_mul-p

@@ -4,7 +4,6 @@ use Rattle.shape.proofs.RoundTripsProof.{exact-long}
 use Rattle.parts.proofs.HeadLaws.{value_inside}
 use Rattle.parts.proofs.WalkLaws.{reached-most}
 use Rattle.parts.proofs.PlacesLaws.{located}
-use borrow.Author.Rules.{rules}
 use Rattle.parts.proofs.locate.Goals as goal
 
 pub value-e-requires : goal.value-e-requires

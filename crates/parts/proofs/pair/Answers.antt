@@ -4,7 +4,6 @@ use Prim.Native.Nat.{ℕ, ◌+◌, ◌*◌, ◌/◌, ◌%◌}
 use native.Mathlib.Omega.{arith}
 use lib.ListN.{get_or, get_or-eq_default}
 use Rattle.shape.proofs.HeaderLaws.{pair-value}
-use borrow.Author.Rules.{rules}
 use Rattle.parts.proofs.pair.Goals as goal
 
 pub returns-then-k-values : goal.returns-then-k-values

@@ -3,7 +3,6 @@ use native.Mathlib.Omega.{arith}
 use Rattle.shape.proofs.RoundsLaws.{sizes_bounds}
 use Rattle.shape.proofs.SetFacts.{digest≤, round_most≤}
 use Rattle.parts.proofs.PlacesLaws.{placed}
-use borrow.Author.Rules.{rules}
 use Rattle.parts.proofs.places.Goals as goal
 
 pub overflow_add-transcript : goal.overflow_add-transcript

@@ -1,6 +1,5 @@
 -- `parts::put_four` meets its contract.
 use Rattle.parts.proofs.PutLaws.{four_put}
-use borrow.Author.Rules.{rules}
 use Rattle.parts.proofs.put_four.Goals as goal
 
 pub returns : goal.returns

@@ -3,7 +3,6 @@ use native.Mathlib.Omega.{arith}
 use Rattle.shape.proofs.RoundsLaws.{sizes_bounds, sizes_zero, sizes-other}
 use Rattle.shape.proofs.SetFacts.{round_most≤}
 use Rattle.parts.proofs.PutLaws.{length_four, put_zero, put_other}
-use borrow.Author.Rules.{rules}
 use Rattle.parts.proofs.put_round.Goals as goal
 
 pub put_four-requires : goal.put_four-requires

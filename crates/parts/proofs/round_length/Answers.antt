@@ -1,7 +1,6 @@
 -- `parts::round_length` meets its contract.
 use mathlib.Core.Path.{sym, ◌∙◌}
 use Rattle.shape.proofs.RoundsLaws.{sizes_zero, sizes-other}
-use borrow.Author.Rules.{rules}
 use Rattle.parts.proofs.round_length.Goals as goal
 
 pub returns-then-e-ne0 : goal.returns-then-e-ne0

@@ -1,7 +1,6 @@
 -- `parts::start` meets its contract.
 use Rattle.shape.proofs.SetFacts.{header_length≤}
 use native.Mathlib.Omega.{arith}
-use borrow.Author.Rules.{rules}
 use Rattle.parts.proofs.start.Goals as goal
 
 pub overflow_add-result : goal.overflow_add-result

@@ -1,7 +1,6 @@
 -- `parts::value` meets its contract.
 use mathlib.Core.Path.{◌∙◌}
 use Rattle.shape.proofs.HeaderLaws.{value_in_byte}
-use borrow.Author.Rules.{rules}
 use Rattle.parts.proofs.value.Goals as goal
 
 pub returns : goal.returns

@@ -2,7 +2,6 @@
 use native.Mathlib.Omega.{arith}
 use Rattle.reader.specs.Reading.{bit_number}
 use Rattle.reader.proofs.FollowLaws.{start, inside, passed, stays}
-use borrow.Author.Rules.{rules}
 use Rattle.reader.proofs.after_bytes.Goals as goal
 
 pub overflow_add-result : goal.overflow_add-result

@@ -3,7 +3,6 @@ use native.Mathlib.Omega.{arith}
 use Rattle.bits.specs.Bytes.{bit, odd}
 use Rattle.reader.specs.Reading.{bit_number}
 use Rattle.reader.proofs.BitLaws.{inside, found, none}
-use borrow.Author.Rules.{rules}
 use Rattle.reader.proofs.bit_at.Goals as goal
 
 pub overflow_add-byte : goal.overflow_add-byte

@@ -4,7 +4,6 @@ use native.Mathlib.Omega.{arith}
 use lib.ListN.{length}
 use Rattle.reader.specs.Reading.{bit_number}
 use Rattle.reader.proofs.FollowLaws.{start, inside, filled, kept}
-use borrow.Author.Rules.{rules}
 use Rattle.reader.proofs.bytes_at.Goals as goal
 
 pub overflow_add-start : goal.overflow_add-start

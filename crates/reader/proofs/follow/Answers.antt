@@ -3,7 +3,6 @@ use native.Mathlib.Omega.{arith}
 use borrow.Author.Tests.{leb-true, leb-false}
 use Rattle.reader.specs.Reading.{bit_number}
 use Rattle.reader.proofs.FollowLaws.{start, tested, outside}
-use borrow.Author.Rules.{rules}
 use Rattle.reader.proofs.follow.Goals as goal
 
 pub returns-then-s-at : goal.returns-then-s-at

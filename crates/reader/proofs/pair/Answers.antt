@@ -1,7 +1,6 @@
 -- `reader::pair` meets its contract.
 use native.Mathlib.Omega.{arith}
 use Rattle.reader.proofs.ValueLaws.{digit-small}
-use borrow.Author.Rules.{rules}
 use Rattle.reader.proofs.pair.Goals as goal
 
 pub overflow_mul-result : goal.overflow_mul-result

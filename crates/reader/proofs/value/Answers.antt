@@ -1,5 +1,5 @@
 -- `reader::value` meets its contract: the two bits that the reader gives, one behind the other, are the two of the value.
-use mathlib.Core.Path.{◌≡◌, ◌∙◌, ap, ap₂}
+use mathlib.Core.Path.{◌∙◌, ap, ap₂}
 use Prim.Native.Nat.{◌+◌, ◌*◌}
 use Rattle.reader.specs.declared.Reader.{Reader}
 use Rattle.reader.specs.declared.Next.{Next}

@@ -1,7 +1,6 @@
 -- `reader::whole` meets its contract.
 use native.Mathlib.Omega.{arith}
 use Rattle.bits.specs.Bytes.{width}
-use borrow.Author.Rules.{rules}
 use Rattle.reader.proofs.whole.Goals as goal
 
 pub returns : goal.returns

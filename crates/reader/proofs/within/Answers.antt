@@ -3,7 +3,6 @@ use native.Mathlib.Omega.{arith}
 use borrow.Author.Tests.{ltb-true, ltb-false}
 use Rattle.reader.specs.Reading.{bit_number}
 use Rattle.reader.proofs.BitLaws.{tested, outside}
-use borrow.Author.Rules.{rules}
 use Rattle.reader.proofs.within.Goals as goal
 
 pub returns-then-at-s : goal.returns-then-at-s

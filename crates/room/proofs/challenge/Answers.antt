@@ -3,7 +3,6 @@ use mathlib.Core.Path.{◌∙◌}
 use Rattle.hashing.proofs.HashingLaws.{fed_more}
 use Rattle.views.specs.Input.{challenge_input}
 use Rattle.room.proofs.RoomLaws.{fed_input, filled-from}
-use borrow.Author.Rules.{rules}
 use Rattle.room.proofs.challenge.Goals as goal
 
 pub first_block-requires : goal.first_block-requires

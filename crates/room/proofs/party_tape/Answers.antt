@@ -5,7 +5,6 @@ use lib.Seq.{length-take-le}
 use Rattle.hashing.specs.Hashing.{tape}
 use Rattle.views.specs.Signed.{tape_of}
 use Rattle.room.proofs.RoomLaws.{front_of, take_below}
-use borrow.Author.Rules.{rules}
 use Rattle.room.proofs.party_tape.Goals as goal
 
 pub slice_bounds-s-end : goal.slice_bounds-s-end

@@ -5,7 +5,6 @@ use native.Mathlib.Omega.{arith}
 use Rattle.slices.specs.Slices.{put}
 use Rattle.views.specs.Parties.{party_of, from_party, three}
 use Rattle.room.proofs.RoomLaws.{sizes, commitments_fit}
-use borrow.Author.Rules.{rules}
 use Rattle.room.proofs.put_commitments.Goals as goal
 
 pub overflow_mul-at : goal.overflow_mul-at

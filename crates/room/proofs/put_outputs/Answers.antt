@@ -4,7 +4,6 @@ use native.Mathlib.Omega.{arith}
 use Rattle.bits.specs.Words.{block_bits}
 use Rattle.bits.proofs.BytesLaws.{length-bytes_of}
 use Rattle.room.proofs.RoomLaws.{sizes, shares_fit, part-long, outputs-put}
-use borrow.Author.Rules.{rules}
 use Rattle.room.proofs.put_outputs.Goals as goal
 
 pub slice_bounds-a-end : goal.slice_bounds-a-end

@@ -1,6 +1,5 @@
 -- `room::put_three` meets its contract.
 use Rattle.room.proofs.RoomLaws.{three-put}
-use borrow.Author.Rules.{rules}
 use Rattle.room.proofs.put_three.Goals as goal
 
 pub returns : goal.returns

@@ -6,7 +6,6 @@ use lib.Seq.{length-take-le}
 use Rattle.bits.specs.Words.{block_bits}
 use Rattle.bits.specs.Bytes.{bytes}
 use Rattle.room.proofs.RoomLaws.{sizes, stored_bits, front_of, take-small}
-use borrow.Author.Rules.{rules}
 use Rattle.room.proofs.stored.Goals as goal
 
 pub slice_bounds-s-end : goal.slice_bounds-s-end

@@ -4,7 +4,6 @@ use Prim.Native.Nat.{◌≤◌}
 use native.Mathlib.Omega.{arith}
 use lib.Seq.{length-take-le}
 use Rattle.room.proofs.RoomLaws.{sizes, front_of}
-use borrow.Author.Rules.{rules}
 use Rattle.room.proofs.transcribed.Goals as goal
 
 pub slice_bounds-s-end : goal.slice_bounds-s-end

@@ -1,7 +1,6 @@
 -- `round::advance_shares` meets its contract.
 use Rattle.bits.specs.Words.{block_bits, word_bits}
 use Rattle.round.proofs.GateLaws.{into_of, advance_of}
-use borrow.Author.Rules.{rules}
 use Rattle.round.proofs.advance_shares.Goals as goal
 
 pub returns : goal.returns

@@ -1,13 +1,10 @@
 -- `round::all_states` meets its contract.
 use native.Mathlib.Omega.{arith}
-use mathlib.Core.Path.{◌≡◌, refl, ◌∙◌}
-use Prim.Native.Nat.{ℕ, ◌-◌, ◌≤◌}
-use lib.ListN.{length}
-use Rattle.bits.specs.Bits.{Bits}
+use mathlib.Core.Path.{refl, ◌∙◌}
 use Rattle.bits.specs.Words.{block_bits}
 use Rattle.sets.specs.declared.Set.{Set}
 use Rattle.sets.proofs.Each.{most}
-use Rattle.circuit.specs.Lowmc.{start, state_after}
+use Rattle.circuit.specs.Lowmc.{state_after}
 use Rattle.circuit.proofs.LowmcLaws.{state-none, state-more}
 use Rattle.lowmc.specs.Lent.{cipher_of}
 use Rattle.lowmc.proofs.EncryptedLaws.{start_of}

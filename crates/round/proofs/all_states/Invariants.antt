@@ -1,19 +1,12 @@
 -- `round::all_states` meets its contract.
-use native.Mathlib.Omega.{arith}
-use mathlib.Core.Path.{◌≡◌, refl, ◌∙◌}
+use mathlib.Core.Path.{◌≡◌}
 use Prim.Native.Nat.{ℕ, ◌-◌, ◌≤◌}
 use lib.ListN.{length}
 use Rattle.bits.specs.Bits.{Bits}
 use Rattle.bits.specs.Words.{block_bits}
-use Rattle.sets.specs.declared.Set.{Set}
-use Rattle.sets.proofs.Each.{most}
 use Rattle.circuit.specs.Lowmc.{start, state_after}
-use Rattle.circuit.proofs.LowmcLaws.{state-none, state-more}
 use Rattle.lowmc.specs.Lent.{cipher_of}
-use Rattle.lowmc.proofs.EncryptedLaws.{start_of}
 use Rattle.round.specs.Engine.{state_of}
-use Rattle.round.proofs.EngineLaws.{one_state, more_states}
-use borrow.Author.Rules.{rules}
 use Rattle.round.proofs.all_states.Given as goal
 
 abbrev pub invariant-loop-i : goal.invariant-loop-i

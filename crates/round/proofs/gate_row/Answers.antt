@@ -4,7 +4,6 @@ use Prim.Native.Nat.{◌*◌}
 use Rattle.bits.specs.Words.{block_bits}
 use Rattle.lowmc.proofs.LentLaws.{in_word}
 use Rattle.round.proofs.GateLaws.{row_of}
-use borrow.Author.Rules.{rules}
 use Rattle.round.proofs.gate_row.Goals as goal
 
 pub overflow_mul-p : goal.overflow_mul-p

@@ -5,7 +5,6 @@ use Rattle.bits.specs.Bits.{up_to}
 use Rattle.circuit.specs.Round.{next, gates}
 use Rattle.round.specs.Engine.{share_in, row_of}
 use Rattle.round.proofs.EngineLaws.{three}
-use borrow.Author.Rules.{rules}
 use Rattle.round.proofs.gate_rows.Goals as goal
 
 pub returns : goal.returns

@@ -4,7 +4,6 @@ use Rattle.bits.specs.Bits.{◌⊕◌}
 use Rattle.bits.specs.Words.{block_bits}
 use Rattle.round.specs.Inputs.{input_share}
 use Rattle.round.proofs.EngineLaws.{three}
-use borrow.Author.Rules.{rules}
 use Rattle.round.proofs.input_shares.Goals as goal
 
 pub returns : goal.returns

@@ -2,7 +2,6 @@
 use mathlib.Core.Path.{◌∙◌}
 use Rattle.bits.specs.Words.{block_bits}
 use Rattle.round.proofs.GateLaws.{into_yes, into_no}
-use borrow.Author.Rules.{rules}
 use Rattle.round.proofs.public_part.Goals as goal
 
 pub returns-then-into : goal.returns-then-into

@@ -1,20 +1,15 @@
 -- `round::recompute` meets its contract.
-use native.Mathlib.Omega.{arith}
-use mathlib.Core.Path.{◌≡◌, refl}
+use mathlib.Core.Path.{◌≡◌}
 use mathlib.Core.Bool.{cond}
 use Prim.Native.Nat.{◌-◌, ◌≤◌}
-use lib.ListN.{length, length-set}
+use lib.ListN.{length}
 use Rattle.bits.specs.Bits.{Bits, zeros}
 use Rattle.bits.specs.Words.{block_bits}
-use Rattle.bits.specs.Rows.{rows_of}
-use Rattle.sets.specs.declared.Set.{Set}
-use Rattle.sets.proofs.Each.{most}
 use Rattle.circuit.specs.Lowmc.{start}
 use Rattle.circuit.specs.Round.{Party}
 use Rattle.lowmc.specs.Lent.{cipher_of}
 use Rattle.round.specs.Engine.{opening_on_words}
-use Rattle.round.proofs.VerifierLaws.{Goes, goes, Followed, followed_none, followed_more, followed_all}
-use borrow.Author.Rules.{rules}
+use Rattle.round.proofs.VerifierLaws.{Goes, Followed}
 use Rattle.round.proofs.recompute.Given as goal
 
 abbrev pub invariant-loop-i : goal.invariant-loop-i

@@ -7,7 +7,6 @@ use Rattle.round.specs.Inputs.{opening_of}
 use Rattle.round.proofs.InputsLaws.{next-number, from_start}
 use Rattle.round.proofs.VerifierLaws.{recomputed_cong}
 use Rattle.circuit.specs.Round.{next}
-use borrow.Author.Rules.{rules}
 use Rattle.round.proofs.recompute_tapes.Goals as goal
 
 pub returns : goal.returns

@@ -4,7 +4,6 @@ use Rattle.lowmc.specs.Lent.{cipher_of}
 use Rattle.round.specs.Inputs.{tapes_of}
 use Rattle.round.proofs.EngineLaws.{three}
 use mathlib.Core.Path.{◌≡◌}
-use borrow.Author.Rules.{rules}
 use Rattle.round.proofs.rows_at.Goals as goal
 
 pub returns : goal.returns

@@ -1,20 +1,15 @@
 -- `round::simulate` meets its contract.
-use native.Mathlib.Omega.{arith}
-use mathlib.Core.Path.{◌≡◌, refl, ◌∙◌}
-use Prim.Native.Nat.{◌-◌, ◌+◌, ◌≤◌}
-use lib.ListN.{length, length-set}
+use mathlib.Core.Path.{◌≡◌}
+use Prim.Native.Nat.{◌-◌, ◌≤◌}
+use lib.ListN.{length}
 use Rattle.bits.specs.Bits.{Bits}
-use Rattle.bits.specs.Words.{block_bits}
-use Rattle.sets.specs.declared.Set.{Set}
-use Rattle.sets.proofs.Each.{most}
 use Rattle.circuit.specs.Lowmc.{state_after}
 use Rattle.circuit.specs.RoundTheorems.{xor3}
 use Rattle.lowmc.specs.Lent.{cipher_of}
-use Rattle.round.specs.Engine.{share_in, word, row_of, Traced}
+use Rattle.round.specs.Engine.{share_in, Traced}
 use Rattle.round.specs.Inner.{Begun}
 use Rattle.round.specs.Inputs.{tapes_of}
-use Rattle.round.proofs.SignerLaws.{Done, done_none, done_more, done_all}
-use borrow.Author.Rules.{rules}
+use Rattle.round.proofs.SignerLaws.{Done}
 use Rattle.round.proofs.simulate.Given as goal
 
 abbrev pub invariant-loop-i : goal.invariant-loop-i

@@ -4,7 +4,6 @@ use Rattle.bits.specs.Words.{block_bits}
 use Rattle.circuit.specs.Lowmc.{start}
 use Rattle.lowmc.specs.Lent.{cipher_of}
 use Rattle.lowmc.proofs.EncryptedLaws.{start_of}
-use borrow.Author.Rules.{rules}
 use Rattle.round.proofs.start_shares.Goals as goal
 
 pub returns : goal.returns

@@ -3,7 +3,6 @@ use Rattle.bits.specs.Words.{block_bits}
 use Rattle.lowmc.specs.Lent.{cipher_of}
 use Rattle.round.specs.Engine.{share_in, row_of}
 use Rattle.round.proofs.SignerLaws.{stepped_of}
-use borrow.Author.Rules.{rules}
 use Rattle.round.proofs.step.Goals as goal
 
 pub returns : goal.returns

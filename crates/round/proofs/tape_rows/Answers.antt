@@ -1,6 +1,5 @@
 -- `round::tape_rows` meets its contract.
 use Rattle.round.proofs.InputsLaws.{taped_two, taped_other}
-use borrow.Author.Rules.{rules}
 use Rattle.round.proofs.tape_rows.Goals as goal
 
 pub returns-then-k-eq2 : goal.returns-then-k-eq2

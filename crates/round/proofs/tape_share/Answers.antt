@@ -5,7 +5,6 @@ use lib.ListN.{length-take}
 use Rattle.sets.specs.Lengths.{w}
 use Rattle.lowmc.proofs.LentLaws.{whole, words}
 use Rattle.round.proofs.InputsLaws.{share_of}
-use borrow.Author.Rules.{rules}
 use Rattle.round.proofs.tape_share.Goals as goal
 
 pub load-requires : goal.load-requires

@@ -1,7 +1,6 @@
 -- `round::top` meets its contract.
 use native.Mathlib.Omega.{arith}
 use Rattle.bits.proofs.WordsLaws.{keep_top}
-use borrow.Author.Rules.{rules}
 use Rattle.round.proofs.top.Goals as goal
 
 pub returns : goal.returns

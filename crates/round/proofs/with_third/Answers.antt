@@ -2,7 +2,6 @@
 use mathlib.Core.Path.{refl, ◌∙◌, ap}
 use Rattle.bits.specs.Bits.{Bits, ◌⊕◌}
 use Rattle.bits.specs.Words.{block_bits}
-use borrow.Author.Rules.{rules}
 use Rattle.round.proofs.with_third.Goals as goal
 
 pub returns : goal.returns

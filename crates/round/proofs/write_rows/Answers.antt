@@ -5,7 +5,6 @@ use mathlib.Core.Path.{◌∙◌, ap}
 use Prim.Native.Nat.{◌*◌}
 use Rattle.bits.specs.Bytes.{width}
 use Rattle.round.proofs.InputsLaws.{written-bytes, room}
-use borrow.Author.Rules.{rules}
 use Rattle.round.proofs.write_rows.Goals as goal
 
 pub overflow_mul-p : goal.overflow_mul-p

@@ -1,7 +1,6 @@
 -- `shake::close` meets its contract.
 use mathlib.Core.Path.{ap, ◌∙◌}
 use Prim.Native.Nat.{◌-◌}
-use borrow.Author.Rules.{rules}
 use Rattle.keccak.specs.Lanes.{permuted}
 use Rattle.shake.specs.Shake.{byte_added}
 use Rattle.shake.specs.Sponge.{sponge, padded}

@@ -1,11 +1,8 @@
 -- `shake::give` meets its contract. The invariant: the first i bytes are given.
 use mathlib.Core.Path.{◌≡◌, refl, ◌∙◌}
-use Prim.Native.Nat.{◌-◌, ◌≤◌}
 use native.Mathlib.Omega.{arith}
-use borrow.Author.Rules.{rules}
 use lib.ListN.{length}
-use Rattle.slices.specs.Slices.{put}
-use Rattle.shake.specs.Sponge.{sponge, squeezed, given}
+use Rattle.shake.specs.Sponge.{sponge}
 use Rattle.shake.proofs.StateLaws.{length-bytes_at, length-put-bytes_at}
 use Rattle.shake.proofs.SpongeLaws.{squeezed-none, squeezed_block, put-given-none, put-given, put-given-all}
 use Rattle.shake.proofs.give.Goals as goal

@@ -1,7 +1,6 @@
 -- `shake::refill` meets its contract.
 use mathlib.Core.Path.{sym, ap, ◌∙◌}
 use native.Mathlib.Omega.{arith}
-use borrow.Author.Rules.{rules}
 use Rattle.shake.specs.Sponge.{sponge}
 use Rattle.shake.proofs.SpongeLaws.{ready_spent, ready-more}
 use Rattle.shake.proofs.refill.Goals as goal

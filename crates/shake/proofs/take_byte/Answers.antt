@@ -1,7 +1,6 @@
 -- `shake::take_byte` meets its contract.
 use mathlib.Core.Path.{sym, ap, ◌∙◌}
 use Prim.Native.Nat.{◌+◌}
-use borrow.Author.Rules.{rules}
 use Rattle.keccak.specs.Lanes.{permuted}
 use Rattle.shake.specs.Sponge.{sponge}
 use Rattle.shake.proofs.SpongeLaws.{absorbed-last, absorbed-next}

@@ -1,11 +1,9 @@
 -- `shake::take_in` meets its contract. The invariant: the first i bytes are taken in.
-use mathlib.Core.Path.{◌≡◌, ap, ◌∙◌}
-use Prim.Native.Nat.{◌-◌, ◌<◌, ◌≤◌}
+use mathlib.Core.Path.{ap, ◌∙◌}
 use native.Mathlib.Omega.{arith}
-use borrow.Author.Rules.{rules}
-use lib.ListN.{length, take}
+use lib.ListN.{length}
 use Rattle.keccak.proofs.LanesLaws.{length-permuted}
-use Rattle.shake.specs.Sponge.{sponge, absorbed}
+use Rattle.shake.specs.Sponge.{sponge}
 use Rattle.shake.proofs.StateLaws.{length_is_added}
 use Rattle.shake.proofs.SpongeLaws.{absorbed-none, absorbed_block, absorbed_rest}
 use Rattle.shake.proofs.take_in.Goals as goal

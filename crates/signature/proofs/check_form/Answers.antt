@@ -2,7 +2,6 @@
 use mathlib.Core.Path.{sym, ◌∙◌}
 use native.Mathlib.Omega.{arith}
 use Rattle.shape.proofs.ReadingLaws.{write-length, write-value, write-slot, write-fine}
-use borrow.Author.Rules.{rules}
 use Rattle.signature.proofs.check_form.Goals as goal
 
 pub returns-then-x-unpacked_length : goal.returns-then-x-unpacked_length

@@ -7,7 +7,6 @@ use Rattle.shape.proofs.RoundTripsProof.{length-signature}
 use Rattle.shape.proofs.SetFacts.{t≤}
 use Rattle.signature.proofs.PackLaws.{packed}
 use Rattle.signature.proofs.CallLaws.{whole-values}
-use borrow.Author.Rules.{rules}
 use Rattle.signature.proofs.pack.Goals as goal
 
 pub overflow_add-end : goal.overflow_add-end

@@ -5,8 +5,7 @@ use native.Mathlib.Omega.{arith}
 use lib.ListN.{drop, get_or, length-take}
 use Rattle.shape.proofs.RoundsLaws.{sizes_bounds}
 use Rattle.shape.proofs.SetFacts.{t≤, header_length≤, round_most≤}
-use Rattle.signature.proofs.PackLaws.{Packed, packed_none, packed-length, packed_inside, packed-small, packed_more, packed_all}
-use borrow.Author.Rules.{rules}
+use Rattle.signature.proofs.PackLaws.{packed_none, packed-length, packed_inside, packed-small, packed_more, packed_all}
 use Rattle.signature.proofs.put_rounds.Goals as goal
 
 pub overflow_add-from : goal.overflow_add-from

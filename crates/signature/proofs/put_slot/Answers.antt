@@ -5,7 +5,6 @@ use native.Mathlib.Omega.{arith}
 use lib.ListN.{drop, length, length-take, length-drop}
 use Rattle.shape.proofs.RoundsLaws.{sizes_bounds, sizes_zero}
 use Rattle.signature.proofs.UnpackLaws.{slot-other, slot_zero}
-use borrow.Author.Rules.{rules}
 use Rattle.signature.proofs.put_slot.Goals as goal
 
 pub place-requires : goal.place-requires

@@ -1,10 +1,8 @@
 -- `signature::put_values` meets its contract.
 use mathlib.Core.Path.{◌≡◌}
-use Prim.Native.Nat.{◌≤◌, ◌-◌}
 use native.Mathlib.Omega.{arith}
 use Rattle.parts.proofs.HeadLaws.{value_inside}
-use Rattle.signature.proofs.UnpackLaws.{Valued, valued_none, valued_length, valued_more, valued_all}
-use borrow.Author.Rules.{rules}
+use Rattle.signature.proofs.UnpackLaws.{valued_none, valued_length, valued_more, valued_all}
 use Rattle.signature.proofs.put_values.Goals as goal
 
 pub loop-k-init : goal.loop-k-init

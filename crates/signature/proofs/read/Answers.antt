@@ -1,12 +1,9 @@
 -- `signature::read` meets its contract.
-use mathlib.Core.Path.{◌≡◌, refl, sym, ◌∙◌}
-use Rattle.sets.specs.declared.Chosen.TheVariants.{Known}
-use Rattle.sets.specs.Sets.{numbered}
+use mathlib.Core.Path.{refl, sym, ◌∙◌}
 use Rattle.sets.proofs.Each.{known_set}
 use Rattle.answers.specs.declared.Refusal.TheVariants.{NoSet}
 use Rattle.answers.proofs.OutcomeLaws.{promise_refused}
 use Rattle.signature.proofs.CallLaws.{read_unknown, read_known}
-use borrow.Author.Rules.{rules}
 use Rattle.signature.proofs.read.Goals as goal
 
 pub returns-in_default : goal.returns-in_default

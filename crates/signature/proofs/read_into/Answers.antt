@@ -7,7 +7,6 @@ use Rattle.shape.proofs.RoundTripsProof.{length-form}
 use Rattle.shape.proofs.SetFacts.{unpacked≤}
 use Rattle.answers.proofs.OutcomeLaws.{promise_refused, promise_given}
 use Rattle.signature.proofs.CallLaws.{read_small, read-refused, read_done, read-exact}
-use borrow.Author.Rules.{rules}
 use Rattle.signature.proofs.read_into.Goals as goal
 
 pub returns-then-output-n : goal.returns-then-output-n

@@ -1,8 +1,6 @@
 -- `signature::slot_clean` meets its contract.
 use mathlib.Core.Path.{sym, ◌∙◌}
-use borrow.Author.Tests.{not-true, not-false}
 use Rattle.signature.proofs.TestLaws.{transcript_inside, slot_fails, slot-other, slot_zero}
-use borrow.Author.Rules.{rules}
 use Rattle.signature.proofs.slot_clean.Goals as goal
 
 pub padded-requires : goal.padded-requires

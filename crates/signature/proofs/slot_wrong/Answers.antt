@@ -1,11 +1,8 @@
 -- `signature::slot_wrong` meets its contract.
 use mathlib.Core.Path.{sym, ◌∙◌}
-use Prim.Native.Nat.{◌-◌}
 use native.Mathlib.Omega.{arith}
-use borrow.Author.Tests.{not-true, not-false}
 use Rattle.shape.proofs.SetFacts.{t≤, unpacked≤}
-use Rattle.signature.proofs.TestLaws.{Cleaned, cleaned_none, cleaned_inside, cleaned_more, cleaned_fails, cleaned_all}
-use borrow.Author.Rules.{rules}
+use Rattle.signature.proofs.TestLaws.{cleaned_none, cleaned_inside, cleaned_more, cleaned_fails, cleaned_all}
 use Rattle.signature.proofs.slot_wrong.Goals as goal
 
 pub overflow_add-at : goal.overflow_add-at

@@ -4,7 +4,6 @@ use native.Mathlib.Omega.{arith}
 use Rattle.shape.proofs.RoundTripsProof.{exact-long}
 use Rattle.shape.proofs.SetFacts.{header_length≤}
 use Rattle.signature.proofs.UnpackLaws.{unpacked}
-use borrow.Author.Rules.{rules}
 use Rattle.signature.proofs.unpack.Goals as goal
 
 pub overflow_add-end : goal.overflow_add-end

@@ -1,10 +1,8 @@
 -- `signature::value_wrong` meets its contract.
 use mathlib.Core.Path.{refl}
-use Prim.Native.Nat.{◌-◌}
 use borrow.Author.Tests.{lt-ltb, le-ltb}
 use Rattle.shape.specs.Header.{is_value}
-use Rattle.signature.proofs.TestLaws.{Passed, passed_none, passed-more, passed_fails, passed-all, value_wrong_lem}
-use borrow.Author.Rules.{rules}
+use Rattle.signature.proofs.TestLaws.{passed_none, passed-more, passed_fails, passed-all, value_wrong_lem}
 use Rattle.signature.proofs.value_wrong.Goals as goal
 
 pub loop-k-init : goal.loop-k-init

@@ -5,7 +5,6 @@ use Rattle.answers.specs.declared.Refusal.TheVariants.{Fine, Room}
 use Rattle.answers.specs.Answers.{answer}
 use Rattle.answers.proofs.OutcomeLaws.{promise_refused, promise_given}
 use Rattle.signature.proofs.CallLaws.{write-small, write-refused, write_done, write-passed, signature-small}
-use borrow.Author.Rules.{rules}
 use Rattle.signature.proofs.write_into.Goals as goal
 
 pub returns-then-output-longest : goal.returns-then-output-longest

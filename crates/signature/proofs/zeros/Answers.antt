@@ -1,13 +1,11 @@
 -- `signature::zeros` meets its contract.
 use mathlib.Core.Path.{sym}
-use Prim.Native.Nat.{◌-◌}
 use native.Mathlib.Omega.{arith}
 use lib.ListN.{drop, length-drop}
 use lib.Seq.{get_or-drop}
 use borrow.Author.Tests.{eq-eqb, ne_eqb}
 use Rattle.shape.specs.Fields.{is_zero}
-use Rattle.signature.proofs.TestLaws.{Passed, passed_none, passed-more, passed_fails, passed-all}
-use borrow.Author.Rules.{rules}
+use Rattle.signature.proofs.TestLaws.{passed_none, passed-more, passed_fails, passed-all}
 use Rattle.signature.proofs.zeros.Goals as goal
 
 pub loop-i-init : goal.loop-i-init

@@ -5,7 +5,6 @@ use lib.Seq.{length-take-le}
 use Rattle.room.proofs.RoomLaws.{sizes}
 use Rattle.signer.proofs.SeedLaws.{seeds-small, salt_place}
 use Rattle.signer.proofs.SignLaws.{challenged_as}
-use borrow.Author.Rules.{rules}
 use Rattle.signer.proofs.challenged.Goals as goal
 
 pub overflow_mul-from : goal.overflow_mul-from

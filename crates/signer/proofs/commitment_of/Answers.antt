@@ -4,7 +4,6 @@ use Rattle.lowmc.specs.Lent.{cipher_of}
 use Rattle.views.specs.Signed.{seed_at, salt_at}
 use Rattle.signer.proofs.SeedLaws.{placed, seed_part}
 use Rattle.signer.proofs.PlayLaws.{commitment_as}
-use borrow.Author.Rules.{rules}
 use Rattle.signer.proofs.commitment_of.Goals as goal
 
 pub overflow_mul-at : goal.overflow_mul-at

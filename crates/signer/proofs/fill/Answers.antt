@@ -1,6 +1,6 @@
 -- `signer::fill` meets its contract.
 use mathlib.Core.Path.{◌≡◌, sym, subst}
-use Prim.Native.Nat.{ℕ, ◌+◌, ◌-◌, ◌≤◌}
+use Prim.Native.Nat.{ℕ, ◌+◌}
 use native.Mathlib.Omega.{arith}
 use Rattle.lowmc.specs.Lent.{cipher_of}
 use Rattle.views.specs.Input.{signed_outputs, signed_commitments, signer_filling}

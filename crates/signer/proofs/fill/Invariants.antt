@@ -1,12 +1,8 @@
 -- `signer::fill` meets its contract.
-use mathlib.Core.Path.{◌≡◌, sym, subst}
-use Prim.Native.Nat.{ℕ, ◌+◌, ◌-◌, ◌≤◌}
-use native.Mathlib.Omega.{arith}
+use Prim.Native.Nat.{◌-◌, ◌≤◌}
 use Rattle.lowmc.specs.Lent.{cipher_of}
-use Rattle.views.specs.Input.{signed_outputs, signed_commitments, signer_filling}
-use Rattle.room.proofs.HeldLaws.{Held, held_none, held_more, held_length, held_all}
-use Rattle.signer.proofs.PlayLaws.{length-outputs, length-commitments}
-use borrow.Author.Rules.{rules}
+use Rattle.views.specs.Input.{signed_outputs, signed_commitments}
+use Rattle.room.proofs.HeldLaws.{Held}
 use Rattle.signer.proofs.fill.Given as goal
 
 abbrev pub invariant-loop-t : goal.invariant-loop-t

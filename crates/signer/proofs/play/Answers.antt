@@ -11,7 +11,6 @@ use Rattle.lowmc.specs.Encrypted.{plaintext}
 use Rattle.room.proofs.RoomLaws.{take_as, rest_as}
 use Rattle.signer.specs.Played.{tapes_in}
 use Rattle.signer.proofs.PlayLaws.{traced_as, played_over}
-use borrow.Author.Rules.{rules}
 use Rattle.signer.proofs.play.Goals as goal
 
 pub slice_bounds-play_tapes-end-2 : goal.slice_bounds-play_tapes-end-2

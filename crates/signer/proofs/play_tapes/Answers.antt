@@ -9,7 +9,6 @@ use Rattle.round.specs.Engine.{share_in}
 use Rattle.round.proofs.InputsLaws.{shares_xor}
 use Rattle.room.proofs.RoomLaws.{sizes}
 use Rattle.signer.proofs.PlayLaws.{traced_as, played_as}
-use borrow.Author.Rules.{rules}
 use Rattle.signer.proofs.play_tapes.Goals as goal
 
 pub load-requires : goal.load-requires

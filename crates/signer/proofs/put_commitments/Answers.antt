@@ -7,7 +7,6 @@ use Rattle.slices.specs.Slices.{put}
 use Rattle.circuit.specs.Round.{party0, party1, party2}
 use Rattle.room.specs.Room.{commitments_at}
 use Rattle.room.proofs.RoomLaws.{sizes}
-use borrow.Author.Rules.{rules}
 use Rattle.signer.proofs.put_commitments.Goals as goal
 
 pub slice_bounds-a-end : goal.slice_bounds-a-end

@@ -5,7 +5,6 @@ use Rattle.lowmc.specs.Lent.{cipher_of}
 use Rattle.views.specs.Signed.{tape_of}
 use Rattle.room.proofs.RoomLaws.{sizes}
 use Rattle.signer.proofs.SeedLaws.{placed, seed_part, salt_part}
-use borrow.Author.Rules.{rules}
 use Rattle.signer.proofs.seeded_tape.Goals as goal
 
 pub overflow_mul-at : goal.overflow_mul-at

@@ -3,7 +3,6 @@ use mathlib.Core.Path.{sym, ◌∙◌}
 use Prim.Native.Nat.{ℕ}
 use Rattle.sets.proofs.Each.{known_set}
 use Rattle.signer.proofs.SignLaws.{handed, no_set}
-use borrow.Author.Rules.{rules}
 use Rattle.signer.proofs.sign.Goals as goal
 
 pub returns-in_default : goal.returns-in_default

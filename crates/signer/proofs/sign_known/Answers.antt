@@ -1,7 +1,6 @@
 -- `signer::sign_known` meets its contract.
 use mathlib.Core.Path.{sym, ◌∙◌}
 use Prim.Native.Nat.{ℕ}
-use borrow.Author.Tests.{not-true, not-false}
 use Rattle.lowmc.specs.Encrypted.{plaintext}
 use Rattle.signer.proofs.SignLaws.{handed, fitting, stopped, unpaired, signed}
 use borrow.Author.Rules.{rules}

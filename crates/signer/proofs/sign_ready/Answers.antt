@@ -7,7 +7,6 @@ use lib.Seq.{length-take-le}
 use Rattle.room.proofs.RoomLaws.{sizes}
 use Rattle.signer.proofs.WriteRoundsLaws.{signature_short}
 use Rattle.signer.proofs.SignLaws.{handed, room-cleared, finished_few, length-values, are_values, finished_full}
-use borrow.Author.Rules.{rules}
 use Rattle.signer.proofs.sign_ready.Goals as goal
 
 pub challenged-filled-requires : goal.challenged-filled-requires

@@ -7,7 +7,6 @@ use Rattle.lowmc.specs.Encrypted.{plaintext}
 use Rattle.room.proofs.RoomLaws.{rest_as}
 use Rattle.signer.proofs.PlayLaws.{traced_as}
 use Rattle.signer.proofs.SignLaws.{plaintext-small}
-use borrow.Author.Rules.{rules}
 use Rattle.signer.proofs.traced.Goals as goal
 
 pub load-key-requires : goal.load-key-requires

@@ -1,10 +1,7 @@
 -- `signer::write` meets its contract.
-use Prim.Native.Nat.{◌-◌}
 use native.Mathlib.Omega.{arith}
-use Rattle.lowmc.specs.Lent.{cipher_of}
 use Rattle.shape.proofs.SetFacts.{t≤, header_length≤}
-use Rattle.signer.proofs.WriteRoundsLaws.{Rounds, rounds-none, rounds-length, rounds_inside, rounds-more, rounds_end, rounds-all}
-use borrow.Author.Rules.{rules}
+use Rattle.signer.proofs.WriteRoundsLaws.{rounds-none, rounds-length, rounds_inside, rounds-more, rounds_end, rounds-all}
 use Rattle.signer.proofs.write.Goals as goal
 
 pub write_front-requires : goal.write_front-requires

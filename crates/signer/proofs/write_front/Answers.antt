@@ -3,7 +3,6 @@ use native.Mathlib.Omega.{arith}
 use Rattle.shape.proofs.SetFacts.{t≤}
 use Rattle.signer.proofs.SeedLaws.{seeds-small, salt_place, length_salt_part}
 use Rattle.signer.proofs.WriteRoundsLaws.{front_put}
-use borrow.Author.Rules.{rules}
 use Rattle.signer.proofs.write_front.Goals as goal
 
 pub overflow_mul-from : goal.overflow_mul-from

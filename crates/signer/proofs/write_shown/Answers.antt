@@ -5,7 +5,6 @@ use Rattle.circuit.specs.Round.{next, third}
 use Rattle.shape.specs.Form.{Shown, round_of}
 use Rattle.views.specs.Parties.{party_of}
 use Rattle.signer.proofs.WriteLaws.{number_after, number-last, shown_as}
-use borrow.Author.Rules.{rules}
 use Rattle.signer.proofs.write_shown.Goals as goal
 
 pub returns : goal.returns

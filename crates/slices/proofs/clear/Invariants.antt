@@ -1,10 +1,6 @@
 -- `slices::clear` meets its contract.
-use mathlib.Core.Path.{◌≡◌, ◌∙◌, ap}
-use Prim.Native.Nat.{ℕ, ◌≤◌, ◌-◌}
-use native.Mathlib.Omega.{arith}
-use mathlib.Core.List.{List}
-use lib.ListN.{length, set}
-use Rattle.slices.proofs.SliceLaws.{length-cleared, cleared-none, cleared_more}
+use mathlib.Core.Path.{◌≡◌}
+use Prim.Native.Nat.{◌≤◌, ◌-◌}
 use Rattle.slices.specs.Slices.{cleared}
 use Rattle.slices.proofs.clear.Given as goal
 

@@ -1,13 +1,13 @@
 -- `slices::copy` meets its contract.
 use mathlib.Core.Path.{◌≡◌, ap, sym, ◌∙◌}
 use mathlib.Core.List.{List, [], ◌∷◌, ◌++◌}
-use Prim.Native.Nat.{ℕ, ◌+◌, ◌-◌, ◌≤◌}
+use Prim.Native.Nat.{ℕ, ◌+◌}
 use native.Mathlib.Omega.{arith}
 use native.Mathlib.Numerals.{add-one}
 use lib.ListN.{length, take, get_or, set}
 use lib.Seq.{take-suc, take-length, length-take-le}
 use Rattle.slices.specs.Slices.{over}
-use Rattle.slices.proofs.SliceLaws.{over_none, over_store, length_over}
+use Rattle.slices.proofs.SliceLaws.{over_none, over_store}
 use Rattle.slices.proofs.copy.Goals as goal
 
 pub loop-i-init : goal.loop-i-init

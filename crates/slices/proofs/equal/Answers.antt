@@ -1,10 +1,5 @@
 -- `slices::equal` meets its contract.
-use Prim.Native.Nat.{◌≤◌, ◌-◌}
 use native.Mathlib.Omega.{arith}
-use mathlib.Core.Path.{◌≡◌}
-use lib.Dec.{eqb}
-use lib.ListN.{length, take}
-use Rattle.slices.specs.Slices.{equal}
 use Rattle.slices.proofs.EqualLaws.{equal-other, equal-none, equal-more, equal-all}
 use borrow.Author.Rules.{rules}
 use Rattle.slices.proofs.equal.Goals as goal

@@ -1,6 +1,5 @@
 -- `slices::place` meets its contract.
 use Rattle.slices.proofs.SliceLaws.{put-part}
-use borrow.Author.Rules.{rules}
 use Rattle.slices.proofs.place.Goals as goal
 
 pub returns : goal.returns

@@ -1,12 +1,7 @@
 -- `verifier::agrees` meets its contract.
-use mathlib.Core.Path.{◌≡◌, refl}
-use Prim.Native.Nat.{◌≤◌, ◌-◌}
+use mathlib.Core.Path.{refl}
 use native.Mathlib.Omega.{arith}
-use lib.Dec.{eqb}
-use lib.ListN.{take}
-use Rattle.slices.specs.Slices.{equal}
 use Rattle.slices.proofs.EqualLaws.{equal-none}
-use Rattle.sets.specs.declared.Set.{Set}
 use Rattle.shape.specs.Header.{values}
 use Rattle.verifier.proofs.FillLaws.{agree_more, agree_all, value-within}
 use borrow.Author.Rules.{rules}

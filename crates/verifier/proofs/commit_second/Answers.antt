@@ -4,7 +4,6 @@ use native.Mathlib.Omega.{arith}
 use Rattle.bits.proofs.BytesLaws.{length-bytes_of}
 use Rattle.hashing.specs.Hashing.{commitment}
 use Rattle.room.proofs.RoomLaws.{sizes, take_as, part-long}
-use borrow.Author.Rules.{rules}
 use Rattle.verifier.proofs.commit_second.Goals as goal
 
 pub slice_bounds-y-end : goal.slice_bounds-y-end

@@ -1,14 +1,11 @@
 -- `verifier::fill` meets its contract.
-use mathlib.Core.Path.{◌≡◌}
-use Prim.Native.Nat.{◌≤◌, ◌<◌, ◌-◌}
+use Prim.Native.Nat.{◌<◌}
 use native.Mathlib.Omega.{arith}
 use Rattle.lowmc.specs.Lent.{cipher_of}
-use Rattle.shape.specs.Form.{form}
 use Rattle.shape.proofs.ReadingLaws.{sound}
-use Rattle.parts.specs.Places.{Stands}
-use Rattle.views.specs.Input.{opened_outputs, opened_commitments, verifier_filling}
+use Rattle.views.specs.Input.{verifier_filling}
 use Rattle.parts.proofs.PlacesLaws.{stands-first}
-use Rattle.room.proofs.HeldLaws.{Held, held_none, held_length}
+use Rattle.room.proofs.HeldLaws.{held_none, held_length}
 use Rattle.verifier.proofs.FillLaws.{outputs-long, commitments-long, located_at, held_step, held_filled}
 use borrow.Author.Rules.{rules}
 use Rattle.verifier.proofs.fill.Goals as goal

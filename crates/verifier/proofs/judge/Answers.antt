@@ -4,7 +4,6 @@ use native.Mathlib.Omega.{arith}
 use Rattle.shape.specs.Header.{values}
 use Rattle.room.proofs.RoomLaws.{sizes}
 use Rattle.verifier.proofs.VerdictLaws.{block_as, verdict_short, verdict_differs, verdict_fine, values-long}
-use borrow.Author.Rules.{rules}
 use Rattle.verifier.proofs.judge.Goals as goal
 
 pub overflow_add-end : goal.overflow_add-end

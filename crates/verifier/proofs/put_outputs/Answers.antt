@@ -6,7 +6,6 @@ use Rattle.bits.specs.Bytes.{bytes_of}
 use Rattle.bits.specs.Words.{block_bits}
 use Rattle.views.specs.Parties.{party_of, from_party, three}
 use Rattle.room.specs.Room.{shares_at}
-use borrow.Author.Rules.{rules}
 use Rattle.verifier.proofs.put_outputs.Goals as goal
 
 pub returns : goal.returns

@@ -1,6 +1,5 @@
 -- `verifier::recompute` meets its contract.
 use Rattle.verifier.proofs.OpenedLaws.{recomputed-from}
-use borrow.Author.Rules.{rules}
 use Rattle.verifier.proofs.recompute.Goals as goal
 
 pub returns : goal.returns

@@ -3,7 +3,6 @@ use mathlib.Core.Path.{sym, ◌∙◌}
 use Rattle.answers.proofs.AnswersLaws.{first_table, first_key, first-message, first-limit, first-room, first-none}
 use Rattle.answers.proofs.ConditionsLaws.{other-true, other-false, short_true, short_false}
 use Rattle.verifier.specs.Verify.{length_checks}
-use borrow.Author.Rules.{rules}
 use Rattle.verifier.proofs.refused.Goals as goal
 
 pub returns-then-tables_other : goal.returns-then-tables_other

@@ -3,7 +3,6 @@ use mathlib.Core.Path.{sym, ◌∙◌}
 use Prim.Native.Nat.{ℕ}
 use Rattle.sets.proofs.Each.{known_set}
 use Rattle.verifier.proofs.VerifyLaws.{handed, no_set}
-use borrow.Author.Rules.{rules}
 use Rattle.verifier.proofs.verify.Goals as goal
 
 pub returns-in_default : goal.returns-in_default

@@ -1,10 +1,8 @@
 -- `verifier::verify_known` meets its contract.
 use mathlib.Core.Path.{sym, ◌∙◌}
 use Prim.Native.Nat.{ℕ}
-use borrow.Author.Tests.{not-true, not-false}
 use Rattle.answers.proofs.AnswersLaws.{fine_is}
 use Rattle.verifier.proofs.VerifyLaws.{handed, fitting, stopped, unread, judged}
-use borrow.Author.Rules.{rules}
 use Rattle.verifier.proofs.verify_known.Goals as goal
 
 pub returns-then-not-fine : goal.returns-then-not-fine

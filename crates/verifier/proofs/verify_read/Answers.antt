@@ -8,7 +8,6 @@ use Rattle.shape.proofs.ReadingLaws.{sound}
 use Rattle.views.specs.Input.{verifier_filling}
 use Rattle.room.proofs.AfterLaws.{filled_front, filled-cleared}
 use Rattle.verifier.proofs.VerifyLaws.{verdict_as}
-use borrow.Author.Rules.{rules}
 use Rattle.verifier.proofs.verify_read.Goals as goal
 
 pub slice_bounds-judge-end : goal.slice_bounds-judge-end

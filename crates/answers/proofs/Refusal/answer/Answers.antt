@@ -1,7 +1,6 @@
 -- `answers::Refusal::answer` meets its contract.
 use native.Mathlib.Omega.{arith}
 use Rattle.answers.proofs.AnswersLaws.{number-most}
-use borrow.Author.Rules.{rules}
 use Rattle.answers.proofs.Refusal.answer.Goals as goal
 
 pub overflow_mul-result : goal.overflow_mul-result

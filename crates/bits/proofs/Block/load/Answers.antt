@@ -3,7 +3,6 @@ use native.Mathlib.Omega.{arith}
 use Rattle.bits.specs.Bytes.{bits_of}
 use Rattle.bits.proofs.BytesLaws.{bits_past}
 use Rattle.bits.proofs.WordsLaws.{four_words}
-use borrow.Author.Rules.{rules}
 use Rattle.bits.proofs.Block.load.Goals as goal
 
 pub returns : goal.returns

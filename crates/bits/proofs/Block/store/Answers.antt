@@ -2,7 +2,6 @@
 use native.Mathlib.Omega.{arith}
 use mathlib.Core.Path.{refl, ◌∙◌}
 use Rattle.bits.proofs.WordsLaws.{store_whole, store_rest}
-use borrow.Author.Rules.{rules}
 use Rattle.bits.proofs.Block.store.Goals as goal
 
 pub returns-then-rest-eq0 : goal.returns-then-rest-eq0

@@ -1,15 +1,10 @@
 -- `bits::Block::store_words` meets its contract.
-use native.Mathlib.Omega.{arith}
-use mathlib.Core.Path.{◌≡◌, ◌∙◌, ap}
-use mathlib.Core.List.{List}
-use Prim.Native.Nat.{ℕ, ◌≤◌, ◌-◌, ◌*◌, ◌/◌}
-use lib.ListN.{length, get_or}
+use mathlib.Core.Path.{◌≡◌}
+use Prim.Native.Nat.{◌≤◌, ◌-◌, ◌*◌, ◌/◌}
+use lib.ListN.{length}
 use Rattle.slices.specs.Slices.{put}
 use Rattle.bits.specs.Bytes.{bytes}
-use Rattle.bits.specs.Words.{word_bits, list_bits}
-use Rattle.bits.proofs.WordsLaws.{put_word}
-use Rattle.bits.proofs.BytesLaws.{put_no_bytes}
-use borrow.Author.Rules.{rules}
+use Rattle.bits.specs.Words.{list_bits}
 use Rattle.bits.proofs.Block.store_words.Given as goal
 
 abbrev pub invariant-loop-k : goal.invariant-loop-k

@@ -1,6 +1,5 @@
 -- `bits::Block::turned` meets its contract.
 use Rattle.bits.proofs.TurnedLaws.{low_words, four}
-use borrow.Author.Rules.{rules}
 use Rattle.bits.proofs.Block.turned.Goals as goal
 
 pub returns : goal.returns

@@ -1,11 +1,11 @@
 -- `bits::Strip::read` meets its contract.
 use native.Mathlib.Omega.{arith}
 use mathlib.Core.Path.{◌≡◌, ◌∙◌, ap}
-use Prim.Native.Nat.{ℕ, ◌≤◌, ◌+◌, ◌-◌, ◌*◌}
-use lib.ListN.{length, length-set}
+use Prim.Native.Nat.{ℕ, ◌*◌}
+use lib.ListN.{length-set}
 use Rattle.bits.specs.Bits.{up_to, from}
 use Rattle.bits.specs.Bytes.{bits_of}
-use Rattle.bits.specs.Rows.{cut, rows_of}
+use Rattle.bits.specs.Rows.{cut}
 use Rattle.bits.proofs.RowsLaws.{cut-none, cut-more, rows-small, row_from}
 use borrow.Author.Rules.{rules}
 use Rattle.bits.proofs.Strip.read.Goals as goal

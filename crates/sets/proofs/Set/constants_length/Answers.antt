@@ -3,7 +3,6 @@ use Rattle.bits.specs.Bytes.{width}
 use Rattle.sets.specs.declared.Set.{Set}
 use Rattle.sets.proofs.Each.{fits_set}
 use Rattle.sets.specs.Lengths.{constants_length}
-use borrow.Author.Rules.{rules}
 use Rattle.sets.proofs.Set.constants_length.Goals as goal
 
 pub overflow_mul-result : goal.overflow_mul-result

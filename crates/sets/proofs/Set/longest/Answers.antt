@@ -4,7 +4,6 @@ use Rattle.bits.specs.Bytes.{width}
 use Rattle.sets.specs.declared.Set.{Set}
 use Rattle.sets.proofs.Each.{fits_set}
 use Rattle.sets.specs.Lengths.{header_length, salt_length, round_most, longest}
-use borrow.Author.Rules.{rules}
 use Rattle.sets.proofs.Set.longest.Goals as goal
 
 pub overflow_add-result : goal.overflow_add-result

@@ -1,6 +1,4 @@
 -- `sets::Set::numbered` meets its contract.
-use borrow.Author.Tests.{ne_eqb}
-use borrow.Author.Rules.{rules}
 use Rattle.sets.proofs.Set.numbered.Goals as goal
 
 pub returns-in-1 : goal.returns-in-1
@@ -11,4 +9,3 @@ returns-in-2 c = rw (c.in-2.is, c.picnic_l3_fs.ensures)
 
 pub returns-in-3 : goal.returns-in-3
 returns-in-3 c = rw (c.in-3.is, c.picnic_l5_fs.ensures)
-

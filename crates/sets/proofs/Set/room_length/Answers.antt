@@ -4,7 +4,6 @@ use Rattle.bits.specs.Bytes.{width}
 use Rattle.sets.specs.declared.Set.{Set}
 use Rattle.sets.proofs.Each.{fits_set}
 use Rattle.sets.specs.Lengths.{room_length}
-use borrow.Author.Rules.{rules}
 use Rattle.sets.proofs.Set.room_length.Goals as goal
 
 pub overflow_mul-result : goal.overflow_mul-result

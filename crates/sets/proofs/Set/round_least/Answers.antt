@@ -4,7 +4,6 @@ use Rattle.bits.specs.Bytes.{width}
 use Rattle.sets.specs.declared.Set.{Set}
 use Rattle.sets.proofs.Each.{fits_set}
 use Rattle.sets.specs.Lengths.{transcript_length, seed_width, round_least}
-use borrow.Author.Rules.{rules}
 use Rattle.sets.proofs.Set.round_least.Goals as goal
 
 pub overflow_add-result : goal.overflow_add-result

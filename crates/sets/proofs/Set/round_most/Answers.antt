@@ -3,7 +3,6 @@ use Rattle.bits.specs.Bytes.{width}
 use Rattle.sets.specs.declared.Set.{Set}
 use Rattle.sets.proofs.Each.{fits_set}
 use Rattle.sets.specs.Lengths.{round_most}
-use borrow.Author.Rules.{rules}
 use Rattle.sets.proofs.Set.round_most.Goals as goal
 
 pub overflow_add-result : goal.overflow_add-result

@@ -1,5 +1,4 @@
 -- `shake::Sponge::absorb` meets its contract.
-use borrow.Author.Rules.{rules}
 use Rattle.shake.proofs.SpongeLaws.{and_taking}
 use Rattle.shake.proofs.Sponge.absorb.Goals as goal
 

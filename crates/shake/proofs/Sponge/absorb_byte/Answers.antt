@@ -1,6 +1,5 @@
 -- `shake::Sponge::absorb_byte` meets its contract.
 use mathlib.Core.Path.{◌∙◌}
-use borrow.Author.Rules.{rules}
 use Rattle.shake.proofs.SpongeLaws.{and_taking, absorbed-one}
 use Rattle.shake.proofs.Sponge.absorb_byte.Goals as goal
 

@@ -1,5 +1,4 @@
 -- `shake::Sponge::squeeze` meets its contract.
-use borrow.Author.Rules.{rules}
 use Rattle.shake.proofs.SpongeLaws.{giving_is}
 use Rattle.shake.proofs.Sponge.squeeze.Goals as goal
 

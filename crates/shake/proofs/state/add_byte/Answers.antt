@@ -1,7 +1,6 @@
 -- `shake::state::add_byte` meets its contract: the shifted byte keeps all its bits.
 use Prim.Native.Nat.{◌+◌, ◌*◌, ◌%◌, ◌≤◌}
 use native.Mathlib.Omega.{arith}
-use borrow.Author.Rules.{rules}
 use lib.Pow.{shl_exact}
 use Rattle.shake.specs.Shake.{byte_added}
 use Rattle.shake.proofs.state.add_byte.Goals as goal

@@ -1,13 +1,9 @@
 -- `shake::state::add_bytes` meets its contract. The invariant: q bytes are added.
-use mathlib.Core.Path.{◌≡◌, sym, ap, ◌∙◌}
-use Prim.Native.Nat.{◌+◌, ◌-◌, ◌≤◌}
-use native.Mathlib.Omega.{arith}
-use borrow.Author.Rules.{rules}
+use mathlib.Core.Path.{◌≡◌}
+use Prim.Native.Nat.{◌-◌, ◌≤◌}
 use lib.ListN.{length}
 use Rattle.slices.specs.Slices.{part}
 use Rattle.shake.specs.Shake.{added}
-use Rattle.shake.proofs.PartLaws.{part-one}
-use Rattle.shake.proofs.StateLaws.{added_none, added-one, added-part, length-byte_added}
 use Rattle.shake.proofs.state.add_bytes.Given as goal
 
 abbrev pub invariant-loop-q : goal.invariant-loop-q

@@ -1,7 +1,6 @@
 -- `shake::state::add_part` meets its contract: the words and the bytes behind them are the part.
 use Prim.Native.Nat.{◌*◌, ◌/◌}
 use native.Mathlib.Omega.{arith}
-use borrow.Author.Rules.{rules}
 use Rattle.shake.proofs.StateLaws.{added_both, length_is_added}
 use Rattle.shake.proofs.state.add_part.Goals as goal
 

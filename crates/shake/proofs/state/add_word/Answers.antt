@@ -1,6 +1,5 @@
 -- `shake::state::add_word` meets its contract.
 use mathlib.Core.Path.{refl}
-use borrow.Author.Rules.{rules}
 use Rattle.shake.proofs.StateLaws.{word_aligned, word_across}
 use Rattle.shake.proofs.state.add_word.Goals as goal
 

@@ -1,9 +1,7 @@
 -- `shake::state::add_words` meets its contract. The invariant: q words are added.
 use mathlib.Core.Path.{◌≡◌, ap, ◌∙◌}
-use Prim.Native.Nat.{◌+◌, ◌-◌, ◌*◌, ◌≤◌}
+use Prim.Native.Nat.{◌+◌, ◌*◌}
 use native.Mathlib.Omega.{arith}
-use borrow.Author.Rules.{rules}
-use lib.ListN.{length}
 use Rattle.slices.specs.Slices.{part}
 use Rattle.shake.specs.Shake.{added}
 use Rattle.shake.proofs.StateLaws.{added_none, added-part, length_is_added}

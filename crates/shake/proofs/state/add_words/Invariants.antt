@@ -1,12 +1,9 @@
 -- `shake::state::add_words` meets its contract. The invariant: q words are added.
-use mathlib.Core.Path.{◌≡◌, ap, ◌∙◌}
-use Prim.Native.Nat.{◌+◌, ◌-◌, ◌*◌, ◌≤◌}
-use native.Mathlib.Omega.{arith}
-use borrow.Author.Rules.{rules}
+use mathlib.Core.Path.{◌≡◌}
+use Prim.Native.Nat.{◌-◌, ◌*◌, ◌≤◌}
 use lib.ListN.{length}
 use Rattle.slices.specs.Slices.{part}
 use Rattle.shake.specs.Shake.{added}
-use Rattle.shake.proofs.StateLaws.{added_none, added-part, length_is_added}
 use Rattle.shake.proofs.state.add_words.Given as goal
 
 abbrev pub invariant-loop-q : goal.invariant-loop-q

@@ -1,6 +1,5 @@
 -- `shake::state::byte_of` meets its contract.
 use mathlib.Core.Path.{refl}
-use borrow.Author.Rules.{rules}
 use Rattle.shake.specs.Shake.{byte_at}
 use Rattle.shake.proofs.state.byte_of.Goals as goal
 

@@ -1,12 +1,9 @@
 -- `shake::state::give_bytes` meets its contract. The invariant: q bytes are stored.
 use mathlib.Core.Path.{◌≡◌, refl, ◌∙◌}
-use Prim.Native.Nat.{◌+◌, ◌-◌, ◌≤◌}
+use Prim.Native.Nat.{◌+◌}
 use native.Mathlib.Omega.{arith}
-use borrow.Author.Rules.{rules}
-use lib.ListN.{length, length-set}
-use Rattle.slices.specs.Slices.{put}
+use lib.ListN.{length-set}
 use Rattle.slices.proofs.SliceLaws.{put_one}
-use Rattle.shake.specs.Shake.{bytes_at}
 use Rattle.shake.proofs.StateLaws.{put-bytes_at-none, put-bytes_at, bytes_at-one}
 use Rattle.shake.proofs.state.give_bytes.Goals as goal
 

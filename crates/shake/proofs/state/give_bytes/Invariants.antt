@@ -1,13 +1,9 @@
 -- `shake::state::give_bytes` meets its contract. The invariant: q bytes are stored.
-use mathlib.Core.Path.{◌≡◌, refl, ◌∙◌}
-use Prim.Native.Nat.{◌+◌, ◌-◌, ◌≤◌}
-use native.Mathlib.Omega.{arith}
-use borrow.Author.Rules.{rules}
-use lib.ListN.{length, length-set}
+use mathlib.Core.Path.{◌≡◌}
+use Prim.Native.Nat.{◌-◌, ◌≤◌}
+use lib.ListN.{length}
 use Rattle.slices.specs.Slices.{put}
-use Rattle.slices.proofs.SliceLaws.{put_one}
 use Rattle.shake.specs.Shake.{bytes_at}
-use Rattle.shake.proofs.StateLaws.{put-bytes_at-none, put-bytes_at, bytes_at-one}
 use Rattle.shake.proofs.state.give_bytes.Given as goal
 
 abbrev pub invariant-loop-q : goal.invariant-loop-q

@@ -1,7 +1,6 @@
 -- `shake::state::give_part` meets its contract: the words and the bytes behind them are the part.
 use Prim.Native.Nat.{◌*◌, ◌/◌}
 use native.Mathlib.Omega.{arith}
-use borrow.Author.Rules.{rules}
 use Rattle.shake.proofs.StateLaws.{put_both}
 use Rattle.shake.proofs.state.give_part.Goals as goal
 

@@ -1,9 +1,7 @@
 -- `shake::state::give_words` meets its contract. The invariant: q lanes are stored.
 use mathlib.Core.Path.{◌≡◌, refl, ap, ◌∙◌}
-use Prim.Native.Nat.{◌+◌, ◌-◌, ◌*◌, ◌≤◌}
+use Prim.Native.Nat.{◌+◌, ◌*◌}
 use native.Mathlib.Omega.{arith}
-use borrow.Author.Rules.{rules}
-use lib.ListN.{length}
 use Rattle.slices.specs.Slices.{put}
 use Rattle.shake.specs.Shake.{bytes_at}
 use Rattle.shake.proofs.StateLaws.{put-bytes_at-none, put-bytes_at, length-put-bytes_at, bytes_at-word}

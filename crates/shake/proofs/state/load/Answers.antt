@@ -3,7 +3,6 @@ use mathlib.Core.Path.{◌≡◌, ◌∙◌}
 use Prim.Native.Nat.{◌+◌}
 use native.Mathlib.Nat.{add-zero}
 use native.Mathlib.Omega.{arith}
-use borrow.Author.Rules.{rules}
 use Rattle.slices.specs.Slices.{part}
 use Rattle.shake.proofs.OctetsLaws.{made_one, made_more}
 use Rattle.shake.proofs.PartLaws.{window_part}
