@@ -14,6 +14,9 @@ use answers::Refusal;
 use sets::{Chosen, Set};
 use shake::Sponge;
 
+// The pair 11, which gives no value; each other pair is its value.
+const PAIR_11: u8 = 3;
+
 // Whether place T is filled.
 #[derive(Clone, Copy)]
 pub enum Filled {
@@ -64,7 +67,7 @@ pub fn fill(p: Set, first: [u8; 64], limit: u64, out: &mut [u8]) -> Filled
     'reading: for k in 0..limit {
         for j in 0..pairs {
             let v = pair(&b, j);
-            if v < 3 {
+            if v < PAIR_11 {
                 out[got] = v;
                 got += 1;
                 if got == t {

@@ -1,4 +1,4 @@
--- Each exported function asks nothing, and what it ensures is the promise of its call.
+-- Each function of `picnic` asks nothing, and what it ensures is the promise of its call.
 use Rattle.picnic.proofs.Promised.{hash_promised, seeds_promised, encrypt_promised, public_key_promised, challenge_promised}
 use Rattle.picnic.proofs.Promised.{read_promised, write_promised, sign_promised, verify_promised}
 use Rattle.picnic.proofs.Promised.{hash_asks, seeds_asks, encrypt_asks, public_key_asks, challenge_asks, read_asks, write_asks, sign_asks, verify_asks}

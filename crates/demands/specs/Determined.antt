@@ -1,5 +1,5 @@
--- Demand 1: the promise of each exported call settles its answer and what it leaves in every slice that it may write.
--- That the exported functions ensure these promises is said in Exported.antt.
+-- Demand 1: the promise of each call settles its answer and what it leaves in every slice that it may write.
+-- That the functions of `picnic` ensure these promises is said in Exported.antt.
 use Rattle.std.specs.Prelude.{◌≡◌, ℕ}
 use Rattle.slices.specs.Slices.{Bytes}
 use Rattle.hashing.specs.HashCall.{HashPromise}

@@ -1,5 +1,5 @@
--- Demand 1, from the promises to the exported functions: each of the nine asks nothing of its caller, and what it ensures is the
--- promise of its call. `Pre` and `Post` are a function's `requires` and `ensures` as the prover reads them: a has the arguments in
+-- Demand 1, from the promises to the functions of `picnic`: each of the nine asks nothing of its caller, and what it ensures is the
+-- promise of its call. The function that C calls is one line over it, in `picnic_c`, whose proofs/Promised.antt says the same of it. `Pre` and `Post` are a function's `requires` and `ensures` as the prover reads them: a has the arguments in
 -- their order, r is the answer, and s has the arguments again as they are at the end.
 use Rattle.hashing.specs.HashCall.{HashPromise}
 use Rattle.hashing.specs.SeedsCall.{SeedsPromise}

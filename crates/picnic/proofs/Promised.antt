@@ -1,4 +1,4 @@
--- Each exported function asks nothing of its caller, and what it ensures is the promise of its call. `Pre` and `Post` are the
+-- Each function asks nothing of its caller, and what it ensures is the promise of its call. `Pre` and `Post` are the
 -- function's `requires` and `ensures` as the prover reads them: a has the arguments in their order, r is the answer, and s has the
 -- arguments again as they are at the end.
 use Rattle.hashing.specs.HashCall.{HashPromise}

@@ -17,7 +17,7 @@ pub struct Position {
     pub bit: usize,
 }
 
-#[derive(Drop)]
+#[derive(Clone, Copy)]
 pub struct Reader<'a> {
     pub signature: &'a [u8],
     pub at: Position,

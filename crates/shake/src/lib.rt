@@ -7,7 +7,7 @@ ghost use Rattle.std.specs.Prelude.{◌≡◌, [], ◌∷◌, ◌/◌, ◌%◌, 
 ghost use Rattle.shake.specs.Sponge.{sponge, started, absorbed_byte, absorbed, padded, ready, given, squeezed, Rate, Taking, Giving};
 
 // The state, the place in its block, and the length of a block in bytes.
-#[derive(Drop)]
+#[derive(Clone, Copy)]
 pub struct Sponge {
     lanes: [u64; 25],
     at: usize,

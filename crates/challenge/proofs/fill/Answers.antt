@@ -16,7 +16,7 @@ use Rattle.challenge.proofs.BlocksLaws.{chain_first, chain_next, in_none, in_blo
 use Rattle.challenge.proofs.FillingLaws.{Ended, filling-none, filling-room, filling-start, filling_skip, filling_store, ended_all, ended_at, ended_short, ended_full}
 use borrow.Author.Rules.{rules}
 use Rattle.challenge.proofs.fill.Goals as goal
-use Rattle.challenge.proofs.fill.Goals.{then-v-lt3+else-got-t, else-v-lt3, else-reading-test, then-reading-test+then-loop-j-test+then-v-lt3+then-got-t}
+use Rattle.challenge.proofs.fill.Goals.{then-v-lt-PAIR_11+else-got-t, else-v-lt-PAIR_11, else-reading-test, then-reading-test+then-loop-j-test+then-v-lt-PAIR_11+then-got-t}
 
 -- a digest fits the array that holds a block
 fits : (p : Set) (b : Bytes) → length b ≡ 64 → IsSet p → p.digest ≤ length b
@@ -52,9 +52,9 @@ loop-j-preserved c = (
   omega arith,
   λ xs before f.
       let g = c.loop-j.invariant.1 xs before f in
-      elim c.if-v-lt3.branch [
-        | then-v-lt3+else-got-t w ↦ filling_store xs _ _ _ c.pair-v.ensures g w.if-v-lt3.true w.got-is w.out-is w.if-got-t.false
-        | else-v-lt3 w ↦ filling_skip xs _ _ _ c.pair-v.ensures g w.if-v-lt3.false w.got-is w.out-is
+      elim c.if-v-lt-PAIR_11.branch [
+        | then-v-lt-PAIR_11+else-got-t w ↦ filling_store xs _ _ _ c.pair-v.ensures g w.if-v-lt-PAIR_11.true w.got-is w.out-is w.if-got-t.false
+        | else-v-lt-PAIR_11 w ↦ filling_skip xs _ _ _ c.pair-v.ensures g w.if-v-lt-PAIR_11.false w.got-is w.out-is
       ],
 )
 
@@ -87,9 +87,9 @@ returns-then-got-t-2 c =
     let e : Ended p.t (stream_values p (take p.digest c.args.first) c.args.limit) c.reading-test.got c.args.out.now c.reading-test.out =
     elim c.reading-test.branch [
       | else-reading-test w ↦ ended_all _ _ _ _ (omega (arith, w.reading-test.false, k.invariant.0)) k.invariant.3 w.got-is w.out-is
-      | then-reading-test+then-loop-j-test+then-v-lt3+then-got-t w ↦
+      | then-reading-test+then-loop-j-test+then-v-lt-PAIR_11+then-got-t w ↦
           ended_at _ _ k.b _ k.invariant.2 (fits p k.b k.invariant.1 c.requires.0) w.loop-j.j _ _ w.pair-v.ensures
-          w.loop-j-test.true w.reading-test.true (w.loop-j.invariant.1 _ _ k.invariant.3) w.if-v-lt3.true w.got-is w.out-is w.if-got-t.true
+          w.loop-j-test.true w.reading-test.true (w.loop-j.invariant.1 _ _ k.invariant.3) w.if-v-lt-PAIR_11.true w.got-is w.out-is w.if-got-t.true
     ] in
     ended_short _ _ _ e c.if-got-t-2.true
 
@@ -100,8 +100,8 @@ returns-else-got-t-2 c =
     let e : Ended p.t (stream_values p (take p.digest c.args.first) c.args.limit) c.reading-test.got c.args.out.now c.reading-test.out =
     elim c.reading-test.branch [
       | else-reading-test w ↦ ended_all _ _ _ _ (omega (arith, w.reading-test.false, k.invariant.0)) k.invariant.3 w.got-is w.out-is
-      | then-reading-test+then-loop-j-test+then-v-lt3+then-got-t w ↦
+      | then-reading-test+then-loop-j-test+then-v-lt-PAIR_11+then-got-t w ↦
           ended_at _ _ k.b _ k.invariant.2 (fits p k.b k.invariant.1 c.requires.0) w.loop-j.j _ _ w.pair-v.ensures
-          w.loop-j-test.true w.reading-test.true (w.loop-j.invariant.1 _ _ k.invariant.3) w.if-v-lt3.true w.got-is w.out-is w.if-got-t.true
+          w.loop-j-test.true w.reading-test.true (w.loop-j.invariant.1 _ _ k.invariant.3) w.if-v-lt-PAIR_11.true w.got-is w.out-is w.if-got-t.true
     ] in
     ended_full _ _ _ e c.if-got-t-2.false

@@ -1,4 +1,4 @@
--- `reader::after_bit` meets its contract: the answer of `within` says which case of `afterBit` holds.
+-- `reader::after_bit` meets its contract: the answer of `within` says which case of the definition `after_bit` holds.
 use native.Mathlib.Omega.{arith}
 use Rattle.reader.specs.Reading.{bit_number}
 use Rattle.reader.proofs.BitLaws.{inside, behind, stays}

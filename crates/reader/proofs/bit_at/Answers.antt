@@ -1,4 +1,4 @@
--- `reader::bit_at` meets its contract: the answer of `within` says which case of `nextBit` holds.
+-- `reader::bit_at` meets its contract: the answer of `within` says which case of `next_bit` holds.
 use native.Mathlib.Omega.{arith}
 use Rattle.bits.specs.Bytes.{bit, odd}
 use Rattle.reader.specs.Reading.{bit_number}
