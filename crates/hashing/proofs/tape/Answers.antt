@@ -25,8 +25,7 @@ slice_bounds-tape_from-end c = front_length _ c.digest.new.output _ (digest_fits
 pub returns : goal.returns
 unfolding tape
 returns c =
-    let start = c in
-    let a = start.args in
+    let a = c.args in
     c.tape_from.ensures
     ∙ ap (λ (d : Bytes). kdf a.p (tape_input d a.salt.now a.t a.j (length a.output.now)) (length a.output.now))
-    (front_is _ _ _ (digest_fits start.requires.0) c.digest.auto.output ∙ c.digest.ensures)
+    (front_is _ _ _ (digest_fits c.requires.0) c.digest.auto.output ∙ c.digest.ensures)

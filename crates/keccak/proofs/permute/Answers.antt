@@ -10,11 +10,8 @@ loop-i-init c = (omega arith, rounds-none _)
 
 pub loop-i-preserved : goal.loop-i-preserved
 loop-i-preserved c =
-    let x = c in
-    let r = x in
-    let t = r in
-    let l = t.loop-i in
-    (omega arith, rounds-more _ _ _ _ _ l.i _ l.invariant.1 t.theta.ensures r.rho_pi.ensures x.chi-s.ensures c.constant.ensures)
+    let l = c.loop-i in
+    (omega arith, rounds-more _ _ _ _ _ l.i _ l.invariant.1 c.theta.ensures c.rho_pi.ensures c.chi-s.ensures c.constant.ensures)
 
 pub returns : goal.returns
 unfolding permuted

@@ -8,19 +8,16 @@ use Rattle.lowmc.proofs.encrypt.Goals as goal
 
 pub load-key-requires : goal.load-key-requires
 load-key-requires c =
-    let s = c in
-    block_small s.requires.0.is_set s.args.secret.now s.requires.1
+    block_small c.requires.0.is_set c.args.secret.now c.requires.1
 
 pub load-requires : goal.load-requires
 load-requires c =
-    let s = c in
-    block_small s.requires.0.is_set s.args.block.now s.requires.2
+    block_small c.requires.0.is_set c.args.block.now c.requires.2
 
 pub store-requires : goal.store-requires
 store-requires c =
-    let s = c in
     let w = c.width-w in
-    output-small s.requires.0.is_set w.result s.args.output.now w.ensures
+    output-small c.requires.0.is_set w.result c.args.output.now w.ensures
 
 pub returns : goal.returns
 returns c =

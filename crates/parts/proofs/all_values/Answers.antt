@@ -7,13 +7,11 @@ loop-k-init c = valued_none _ _
 
 pub value-requires : goal.value-requires
 value-requires c =
-    let start = c in
-    value_inside start.args.p _ _ start.requires.1 c.loop-k-test.true
+    value_inside c.args.p _ _ c.requires.1 c.loop-k-test.true
 
 pub returns-then-value-ge3 : goal.returns-then-value-ge3
 returns-then-value-ge3 c =
-    let start = c in
-    valued_fails start.args.p start.args.s.now _ _ c.loop-k-test.true c.value.ensures
+    valued_fails c.args.p c.args.s.now _ _ c.loop-k-test.true c.value.ensures
     c.if-value-ge3.true
 
 pub loop-k-preserved : goal.loop-k-preserved
@@ -22,5 +20,4 @@ loop-k-preserved c =
 
 pub returns : goal.returns
 returns c =
-    let start = c in
-    valued_all start.args.p start.args.s.now _ c.loop-k.invariant c.loop-k-test.false
+    valued_all c.args.p c.args.s.now _ c.loop-k.invariant c.loop-k-test.false

@@ -13,28 +13,24 @@ returns-then-s-header c = sym (read_short c.args.p c.args.s.now (omega arith))
 
 pub returns-then-header_wrong : goal.returns-then-header_wrong
 returns-then-header_wrong c =
-    let start = c in
-    sym (read_header start.args.p start.args.s.now (omega arith) (sym c.header_wrong.ensures ∙ c.if-header_wrong.true))
+    sym (read_header c.args.p c.args.s.now (omega arith) (sym c.header_wrong.ensures ∙ c.if-header_wrong.true))
 
 pub returns-then-s-full_length : goal.returns-then-s-full_length
 returns-then-s-full_length c =
-    let start = c in
-    sym (read_length start.args.p start.args.s.now (omega arith)
+    sym (read_length c.args.p c.args.s.now (omega arith)
     (sym c.header_wrong.ensures ∙ c.if-header_wrong.false)
     (λ e. omega (arith, e, c.if-s-full_length.true, c.full_length.ensures)))
 
 pub returns-then-padding_wrong : goal.returns-then-padding_wrong
 returns-then-padding_wrong c =
-    let start = c in
-    sym (read-padding start.args.p start.args.s.now (omega arith)
+    sym (read-padding c.args.p c.args.s.now (omega arith)
     (sym c.header_wrong.ensures ∙ c.if-header_wrong.false)
     (c.if-s-full_length.false ∙ c.full_length.ensures)
     (sym c.padding_wrong.ensures ∙ c.if-padding_wrong.true))
 
 pub returns : goal.returns
 returns c =
-    let start = c in
-    sym (read-fine start.args.p start.args.s.now (omega arith)
+    sym (read-fine c.args.p c.args.s.now (omega arith)
     (sym c.header_wrong.ensures ∙ c.if-header_wrong.false)
     (c.if-s-full_length.false ∙ c.full_length.ensures)
     (sym c.padding_wrong.ensures ∙ c.if-padding_wrong.false))

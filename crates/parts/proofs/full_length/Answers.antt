@@ -16,18 +16,16 @@ loop-k-init c = reached-first _ _ _ (ap (λ (n : ℕ). n + 32) c.header-at.ensur
 
 pub value-requires : goal.value-requires
 value-requires c =
-    let start = c in
-    value_inside start.args.p _ _ start.requires.1 c.loop-k-test.true
+    value_inside c.args.p _ _ c.requires.1 c.loop-k-test.true
 
 pub overflow_add-at-in-loop-k : goal.overflow_add-at-in-loop-k
 overflow_add-at-in-loop-k c =
-    let start = c in
     omega (
       arith,
-      reached-most c.loop-k.invariant start.requires.0,
-      sizes_bounds start.args.p
+      reached-most c.loop-k.invariant c.requires.0,
+      sizes_bounds c.args.p
           c.value.result,
-      round_most≤ start.requires.0,
+      round_most≤ c.requires.0,
     )
 
 pub loop-k-preserved : goal.loop-k-preserved

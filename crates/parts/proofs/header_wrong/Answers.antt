@@ -9,16 +9,13 @@ overflow_mul-p c = omega (arith, t≤ c.requires.0)
 
 pub padded-requires : goal.padded-requires
 padded-requires c =
-    let start = c in
-    header_inside start.args.p _ (some-rounds start.requires.0) (t≤ start.requires.0) start.requires.1
+    header_inside c.args.p _ (some-rounds c.requires.0) (t≤ c.requires.0) c.requires.1
 
 pub returns-then-all_values : goal.returns-then-all_values
 returns-then-all_values c =
-    let start = c in
-    header_tested start.args.p start.args.s.now _ c.all_values.ensures
+    header_tested c.args.p c.args.s.now _ c.all_values.ensures
     c.if-all_values.true _ c.padded.ensures
 
 pub returns : goal.returns
 returns c =
-    let start = c in
-    header_failed start.args.p start.args.s.now _ c.all_values.ensures c.if-all_values.false
+    header_failed c.args.p c.args.s.now _ c.all_values.ensures c.if-all_values.false

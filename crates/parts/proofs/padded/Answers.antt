@@ -13,12 +13,10 @@ bounds-s-last c = search rules
 
 pub nonzero_rem-result : goal.nonzero_rem-result
 nonzero_rem-result c =
-    let start = c in
-    rw (unit start.args.m ((start.args.m + 7) / 8) refl) (pow_pos (8 * ((start.args.m + 7) / 8) - start.args.m))
+    rw (unit c.args.m ((c.args.m + 7) / 8) refl) (pow_pos (8 * ((c.args.m + 7) / 8) - c.args.m))
 
 pub returns : goal.returns
 returns c =
-    let start = c in
-    rw (unit start.args.m ((start.args.m + 7) / 8) refl)
-    (padded_byte start.args.s.now start.args.at start.args.m ((start.args.m + 7) / 8) refl start.requires.0
-    (c.type_inv.s (start.args.at + ((start.args.m + 7) / 8 - 1))).fits)
+    rw (unit c.args.m ((c.args.m + 7) / 8) refl)
+    (padded_byte c.args.s.now c.args.at c.args.m ((c.args.m + 7) / 8) refl c.requires.0
+    (c.type_inv.s (c.args.at + ((c.args.m + 7) / 8 - 1))).fits)

@@ -17,43 +17,37 @@ loop-k-init c = padded-first _ _ _ (ap (λ (n : ℕ). n + 32) c.header-at.ensure
 
 pub overflow_add-at-in-loop-k : goal.overflow_add-at-in-loop-k
 overflow_add-at-in-loop-k c =
-    let start = c in
-    omega (arith, reached-most c.loop-k.invariant.reached start.requires.0, digest≤ start.requires.0)
+    omega (arith, reached-most c.loop-k.invariant.reached c.requires.0, digest≤ c.requires.0)
 
 pub padded-requires : goal.padded-requires
 padded-requires c =
-    let start = c in
-    transcript-within c.loop-k.invariant.reached start.requires.0 c.loop-k-test.true start.requires.1 _
+    transcript-within c.loop-k.invariant.reached c.requires.0 c.loop-k-test.true c.requires.1 _
     c.gates-m.ensures
 
 pub returns-then-not-padded : goal.returns-then-not-padded
 returns-then-not-padded c =
-    let start = c in
-    padded_fails c.loop-k.invariant start.requires.0 _
+    padded_fails c.loop-k.invariant c.requires.0 _
     c.gates-m.ensures c.loop-k-test.true
     (sym (c.if-not-padded.true) ∙ c.padded.ensures)
 
 pub value-requires : goal.value-requires
 value-requires c =
-    let start = c in
-    value_inside start.args.p _ _ (omega (arith, exact-long start.args.p start.args.s.now start.requires.1))
+    value_inside c.args.p _ _ (omega (arith, exact-long c.args.p c.args.s.now c.requires.1))
     c.loop-k-test.true
 
 pub overflow_add-at-in-loop-k-2 : goal.overflow_add-at-in-loop-k-2
 overflow_add-at-in-loop-k-2 c =
-    let start = c in
     omega (
       arith,
-      reached-most c.loop-k.invariant.reached start.requires.0,
+      reached-most c.loop-k.invariant.reached c.requires.0,
       sizes_bounds
-          start.args.p c.value.result,
-      round_most≤ start.requires.0,
+          c.args.p c.value.result,
+      round_most≤ c.requires.0,
     )
 
 pub loop-k-preserved : goal.loop-k-preserved
 loop-k-preserved c =
-    let start = c in
-    padded-more c.loop-k.invariant start.requires.0 _
+    padded-more c.loop-k.invariant c.requires.0 _
     c.gates-m.ensures
     c.loop-k-test.true
     (sym (c.if-not-padded.false) ∙ c.padded.ensures) _ _ c.value.ensures
@@ -61,5 +55,4 @@ loop-k-preserved c =
 
 pub returns : goal.returns
 returns c =
-    let start = c in
-    padded_end c.loop-k.invariant start.requires.0 _ c.gates-m.ensures c.loop-k-test.false
+    padded_end c.loop-k.invariant c.requires.0 _ c.gates-m.ensures c.loop-k-test.false

@@ -11,6 +11,5 @@ returns-then-k-values c = c.exchanged.ensures ∙ pair-value c.args.values.now c
 
 pub returns : goal.returns
 returns c =
-    let s = c in
-    let z : get_or s.args.values.now s.args.k 0 ≡ 0 = get_or-eq_default s.args.values.now 0 c.if-k-values.false in
-    sym (ap (λ (v : ℕ). 2 * (v % 2) + v / 2) z) ∙ pair-value s.args.values.now s.args.k (omega (arith, s.requires s.args.k))
+    let z : get_or c.args.values.now c.args.k 0 ≡ 0 = get_or-eq_default c.args.values.now 0 c.if-k-values.false in
+    sym (ap (λ (v : ℕ). 2 * (v % 2) + v / 2) z) ∙ pair-value c.args.values.now c.args.k (omega (arith, c.requires c.args.k))

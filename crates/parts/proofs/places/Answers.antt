@@ -19,11 +19,9 @@ overflow_add-result-2 c = omega (arith, round_most≤ c.requires.0)
 
 pub overflow_add-result-3 : goal.overflow_add-result-3
 overflow_add-result-3 c =
-    let start = c in
-    omega (arith, round_most≤ start.requires.0, sizes_bounds start.args.p start.args.e)
+    omega (arith, round_most≤ c.requires.0, sizes_bounds c.args.p c.args.e)
 
 pub returns : goal.returns
 returns c =
-    let start = c in
-    placed start.args.p start.args.e start.args.at _ _ _ _ c.transcript.ensures
+    placed c.args.p c.args.e c.args.at _ _ _ _ c.transcript.ensures
     c.seed_width.ensures c.round_least.ensures c.round_length.ensures

@@ -4,11 +4,6 @@ use Rattle.parts.proofs.put_four.Goals as goal
 
 pub returns : goal.returns
 returns c =
-    let fourth = c in
-    let third = fourth in
-    let second = third in
-    let first = second in
-    let start = first in
-    four_put start.args.output.now start.args.at start.args.a.now start.args.b.now start.args.c.now
-    start.args.d.now start.requires first.place.ensures second.place-2.ensures third.place-3.ensures
-    fourth.place-4.ensures
+    four_put c.args.output.now c.args.at c.args.a.now c.args.b.now c.args.c.now
+    c.args.d.now c.requires c.place.ensures c.place-2.ensures c.place-3.ensures
+    c.place-4.ensures

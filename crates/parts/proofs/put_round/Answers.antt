@@ -7,50 +7,42 @@ use Rattle.parts.proofs.put_round.Goals as goal
 
 pub put_four-requires : goal.put_four-requires
 put_four-requires c =
-    let start = c in
     omega (
       arith,
-      length_four start.args.p start.args.e start.args.commitment.now start.args.transcript.now
-          start.args.seed1.now start.args.seed2.now start.args.share.now start.requires.1.0,
-      sizes_bounds start.args.p
-          start.args.e,
+      length_four c.args.p c.args.e c.args.commitment.now c.args.transcript.now
+          c.args.seed1.now c.args.seed2.now c.args.share.now c.requires.1.0,
+      sizes_bounds c.args.p
+          c.args.e,
     )
 
 pub overflow_add-end : goal.overflow_add-end
 overflow_add-end c =
-    let start = c in
-    omega (arith, round_most≤ start.requires.0)
+    omega (arith, round_most≤ c.requires.0)
 
 pub returns-then-e-eq0 : goal.returns-then-e-eq0
-returns-then-e-eq0 c =
-    let start = c in (
-      omega (arith, sizes_zero start.args.p start.args.e c.if-e-eq0.true),
-      put_zero start.args.p start.args.e
-          start.args.commitment.now start.args.transcript.now start.args.seed1.now start.args.seed2.now
-          start.args.share.now start.requires.1.0 start.args.output.now start.args.at c.if-e-eq0.true
-          c.put_four.ensures,
-    )
+returns-then-e-eq0 c = (
+  omega (arith, sizes_zero c.args.p c.args.e c.if-e-eq0.true),
+  put_zero c.args.p c.args.e
+      c.args.commitment.now c.args.transcript.now c.args.seed1.now c.args.seed2.now
+      c.args.share.now c.requires.1.0 c.args.output.now c.args.at c.if-e-eq0.true
+      c.put_four.ensures,
+)
 
 pub place-requires : goal.place-requires
 place-requires c =
-    let start = c in
-    omega (arith, sizes-other start.args.p start.args.e c.if-e-eq0.false, start.requires.1.0.share)
+    omega (arith, sizes-other c.args.p c.args.e c.if-e-eq0.false, c.requires.1.0.share)
 
 pub overflow_add-result : goal.overflow_add-result
 overflow_add-result c =
-    let start =
-    c in
-    omega (arith, round_most≤ start.requires.0)
+    omega (arith, round_most≤ c.requires.0)
 
 pub returns : goal.returns
-returns c =
-    let start =
-    c in (
-      omega (arith, sizes-other start.args.p start.args.e c.if-e-eq0.false),
-      put_other
-          start.args.p start.args.e start.args.commitment.now start.args.transcript.now start.args.seed1.now
-          start.args.seed2.now start.args.share.now start.requires.1.0 start.args.output.now start.args.at _
-          c.if-e-eq0.false start.requires.1.1 (omega arith)
-          c.put_four.ensures
-          c.place.ensures,
-    )
+returns c = (
+  omega (arith, sizes-other c.args.p c.args.e c.if-e-eq0.false),
+  put_other
+      c.args.p c.args.e c.args.commitment.now c.args.transcript.now c.args.seed1.now
+      c.args.seed2.now c.args.share.now c.requires.1.0 c.args.output.now c.args.at _
+      c.if-e-eq0.false c.requires.1.1 (omega arith)
+      c.put_four.ensures
+      c.place.ensures,
+)

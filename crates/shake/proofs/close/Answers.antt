@@ -9,7 +9,5 @@ use Rattle.shake.proofs.close.Goals as goal
 pub returns : goal.returns
 unfolding padded
 returns c =
-    let q = c in
-    let p = q in
-    let r = p.args.rate in
-    ap (λ a. sponge r a 0) (c.permute.ensures ∙ ap permuted (q.add_byte-2.ensures ∙ ap (λ a. byte_added a (r - 1) 0x80) p.add_byte.ensures))
+    let r = c.args.rate in
+    ap (λ a. sponge r a 0) (c.permute.ensures ∙ ap permuted (c.add_byte-2.ensures ∙ ap (λ a. byte_added a (r - 1) 0x80) c.add_byte.ensures))

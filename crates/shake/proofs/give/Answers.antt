@@ -12,37 +12,29 @@ loop-i-init c = (omega arith, refl, c.requires.within, squeezed-none _, put-give
 
 pub refill-k-requires : goal.refill-k-requires
 refill-k-requires c =
-    let l = c in
-    record { rated = l.requires.rated; within = l.loop-i.invariant.2 }
+    record { rated = c.requires.rated; within = c.loop-i.invariant.2 }
 
 pub give_part-requires : goal.give_part-requires
 give_part-requires c =
-    let l = c in
-    let h = l.requires.rated in
+    let h = c.requires.rated in
     (omega (arith, h.small), omega arith)
 
 pub loop-i-smaller : goal.loop-i-smaller
 loop-i-smaller c =
-    let p = c in
-    let l = p in
-    let e = length-put-bytes_at l.loop-i.out _ _ _ l.loop-i.i p.smaller-n.result (omega arith) p.give_part.ensures in
+    let e = length-put-bytes_at c.loop-i.out _ _ _ c.loop-i.i c.smaller-n.result (omega arith) c.give_part.ensures in
     omega (arith, e)
 
 pub loop-i-preserved : goal.loop-i-preserved
 loop-i-preserved c =
-    let p = c in
-    let s = p in
-    let r = s in
-    let l = r.loop-i in
-    let start = r in
-    let g = start.args in
+    let l = c.loop-i in
+    let g = c.args in
     let v = l.invariant in
-    let n = s.smaller-n.result in
-    let k = r.refill-k.result in
+    let n = c.smaller-n.result in
+    let k = c.refill-k.result in
     let o = sponge g.rate g.a.now g.at in
-    let e = length-put-bytes_at l.out _ _ _ l.i n (omega arith) p.give_part.ensures in
-    let b = squeezed_block o g.rate l.a _ l.j k l.i n v.3 r.refill-k.ensures.0 start.requires.rated.some (omega arith) (omega arith) in
-    let d = put-given o g.out.now l.out l.i n _ _ (omega arith) v.4 (length-bytes_at _ _ _) b.1 p.give_part.ensures in
+    let e = length-put-bytes_at l.out _ _ _ l.i n (omega arith) c.give_part.ensures in
+    let b = squeezed_block o g.rate l.a _ l.j k l.i n v.3 c.refill-k.ensures.0 c.requires.rated.some (omega arith) (omega arith) in
+    let d = put-given o g.out.now l.out l.i n _ _ (omega arith) v.4 (length-bytes_at _ _ _) b.1 c.give_part.ensures in
     (omega (arith, e), e ∙ v.1, omega arith, b.0, d)
 
 pub returns : goal.returns

@@ -7,11 +7,10 @@ use Rattle.shake.proofs.refill.Goals as goal
 
 pub returns-then-j-rate : goal.returns-then-j-rate
 returns-then-j-rate c =
-    let t = c in
-    let g = t.args in (
+    let g = c.args in (
       ap (λ a. sponge g.rate a 0) c.permute.ensures
-          ∙ sym (ready_spent g.rate g.a.now g.j t.if-j-rate.true),
-      t.requires.rated.some,
+          ∙ sym (ready_spent g.rate g.a.now g.j c.if-j-rate.true),
+      c.requires.rated.some,
     )
 
 pub returns : goal.returns

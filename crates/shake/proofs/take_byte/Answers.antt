@@ -8,14 +8,11 @@ use Rattle.shake.proofs.take_byte.Goals as goal
 
 pub returns-then-at-rate : goal.returns-then-at-rate
 returns-then-at-rate c =
-    let t = c in
-    let p = t in
-    let g = p.args in
-    ap (λ a. sponge g.rate a 0) (c.permute.ensures ∙ ap permuted p.add_byte.ensures)
-    ∙ sym (absorbed-last g.rate g.a.now g.at g.b t.if-at-rate.true)
+    let g = c.args in
+    ap (λ a. sponge g.rate a 0) (c.permute.ensures ∙ ap permuted c.add_byte.ensures)
+    ∙ sym (absorbed-last g.rate g.a.now g.at g.b c.if-at-rate.true)
 
 pub returns : goal.returns
 returns c =
-    let p = c in
-    let g = p.args in
-    ap (λ a. sponge g.rate a (g.at + 1)) p.add_byte.ensures ∙ sym (absorbed-next g.rate g.a.now g.at g.b c.if-at-rate.false)
+    let g = c.args in
+    ap (λ a. sponge g.rate a (g.at + 1)) c.add_byte.ensures ∙ sym (absorbed-next g.rate g.a.now g.at g.b c.if-at-rate.false)

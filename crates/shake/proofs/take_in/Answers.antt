@@ -13,30 +13,26 @@ loop-j-init c = let p = c.requires in (omega arith, p.0, p.1.room, absorbed-none
 
 pub add_part-requires : goal.add_part-requires
 add_part-requires c =
-    let l = c in
-    let h = l.requires.1.rated in
-    (l.loop-j.invariant.1, (omega (arith, h.small, h.words), omega arith))
+    let h = c.requires.1.rated in
+    (c.loop-j.invariant.1, (omega (arith, h.small, h.words), omega arith))
 
 pub loop-j-preserved : goal.loop-j-preserved
 loop-j-preserved c =
-    let p = c in
-    let l = p.loop-j in
-    let start = p in
-    let g = start.args in
+    let l = c.loop-j in
+    let g = c.args in
     let v = l.invariant in
-    let lp = length_is_added _ _ _ _ p.add_part.ensures v.1 in (
+    let lp = length_is_added _ _ _ _ c.add_part.ensures v.1 in (
       omega arith,
       ap length c.permute.ensures ∙ length-permuted _ lp,
-      start.requires.1.rated.some,
-      absorbed_block (sponge g.rate g.a.now g.at) g.s.now g.rate l.a l.j l.i _ _ v.3 v.2 (omega arith) p.add_part.ensures
+      c.requires.1.rated.some,
+      absorbed_block (sponge g.rate g.a.now g.at) g.s.now g.rate l.a l.j l.i _ _ v.3 v.2 (omega arith) c.add_part.ensures
           c.permute.ensures,
     )
 
 pub add_part-requires-2 : goal.add_part-requires-2
 add_part-requires-2 c =
-    let l = c in
-    let h = l.requires.1.rated in
-    (l.loop-j.invariant.1, (omega (arith, h.small, h.words), omega arith))
+    let h = c.requires.1.rated in
+    (c.loop-j.invariant.1, (omega (arith, h.small, h.words), omega arith))
 
 pub returns : goal.returns
 returns c =

@@ -6,24 +6,20 @@ use Rattle.signature.proofs.check_form.Goals as goal
 
 pub returns-then-x-unpacked_length : goal.returns-then-x-unpacked_length
 returns-then-x-unpacked_length c =
-    let start = c in
-    sym (write-length start.args.p start.args.x.now (λ e. omega (arith, e, c.if-x-unpacked_length.true, c.unpacked_length.ensures)))
+    sym (write-length c.args.p c.args.x.now (λ e. omega (arith, e, c.if-x-unpacked_length.true, c.unpacked_length.ensures)))
 
 pub returns-then-value_wrong : goal.returns-then-value_wrong
 returns-then-value_wrong c =
-    let start = c in
-    sym (write-value start.args.p start.args.x.now (omega arith) (sym c.value_wrong.ensures ∙ c.if-value_wrong.true))
+    sym (write-value c.args.p c.args.x.now (omega arith) (sym c.value_wrong.ensures ∙ c.if-value_wrong.true))
 
 pub returns-then-slot_wrong : goal.returns-then-slot_wrong
 returns-then-slot_wrong c =
-    let start = c in
-    sym (write-slot start.args.p start.args.x.now (omega arith)
+    sym (write-slot c.args.p c.args.x.now (omega arith)
     (sym c.value_wrong.ensures ∙ c.if-value_wrong.false)
     (sym c.slot_wrong.ensures ∙ c.if-slot_wrong.true))
 
 pub returns : goal.returns
 returns c =
-    let start = c in
-    sym (write-fine start.args.p start.args.x.now (omega arith)
+    sym (write-fine c.args.p c.args.x.now (omega arith)
     (sym c.value_wrong.ensures ∙ c.if-value_wrong.false)
     (sym c.slot_wrong.ensures ∙ c.if-slot_wrong.false))

@@ -19,59 +19,53 @@ loop-k-init c = packed_none _ _ _ _ _ (omega arith) (omega arith)
 
 pub overflow_add-end : goal.overflow_add-end
 overflow_add-end c =
-    let start = c in
     omega (
       arith,
-      packed_inside c.loop-k.invariant start.requires.1.0 start.requires.1.1
+      packed_inside c.loop-k.invariant c.requires.1.0 c.requires.1.1
           c.loop-k-test.true,
     )
 
 pub slice_bounds-place-end : goal.slice_bounds-place-end
 slice_bounds-place-end c =
-    let start = c in
     omega (
       arith,
-      packed_inside c.loop-k.invariant start.requires.1.0 start.requires.1.1
+      packed_inside c.loop-k.invariant c.requires.1.0 c.requires.1.1
           c.loop-k-test.true,
     )
 
 pub place-requires : goal.place-requires
 place-requires c =
-    let start = c in
     let turn = c.loop-k in
     omega (
       arith,
-      packed_inside turn.invariant start.requires.1.0 start.requires.1.1 c.loop-k-test.true,
-      packed-length turn.invariant start.requires.1.0 start.requires.1.1,
-      length-take (turn.from + c.round_length-n.result - turn.from) (drop turn.from start.args.x.now),
+      packed_inside turn.invariant c.requires.1.0 c.requires.1.1 c.loop-k-test.true,
+      packed-length turn.invariant c.requires.1.0 c.requires.1.1,
+      length-take (turn.from + c.round_length-n.result - turn.from) (drop turn.from c.args.x.now),
     )
 
 pub overflow_add-at-in-loop-k : goal.overflow_add-at-in-loop-k
 overflow_add-at-in-loop-k c =
-    let start = c in
     omega (
       arith,
-      packed-small c.loop-k.invariant start.requires.1.0
-          start.requires.1.1 start.requires.0 c.loop-k-test.true,
+      packed-small c.loop-k.invariant c.requires.1.0
+          c.requires.1.1 c.requires.0 c.loop-k-test.true,
       sizes_bounds
-          start.args.p (get_or start.args.x.now
+          c.args.p (get_or c.args.x.now
           c.loop-k.k 0),
-      round_most≤ start.requires.0,
+      round_most≤ c.requires.0,
     )
 
 pub overflow_add-from-in-loop-k : goal.overflow_add-from-in-loop-k
 overflow_add-from-in-loop-k c =
-    let start = c in
     omega (
       arith,
-      packed-small c.loop-k.invariant start.requires.1.0
-          start.requires.1.1 start.requires.0 c.loop-k-test.true,
+      packed-small c.loop-k.invariant c.requires.1.0
+          c.requires.1.1 c.requires.0 c.loop-k-test.true,
     )
 
 pub loop-k-preserved : goal.loop-k-preserved
 loop-k-preserved c =
-    let start = c in
-    packed_more c.loop-k.invariant start.requires.1.0 start.requires.1.1
+    packed_more c.loop-k.invariant c.requires.1.0 c.requires.1.1
     c.loop-k-test.true _ _ _
     c.round_length-n.ensures
     c.round_most-most.ensures refl
@@ -79,10 +73,8 @@ loop-k-preserved c =
 
 pub shape_of-output : goal.shape_of-output
 shape_of-output c =
-    let start = c in
-    packed-length c.loop-k.invariant start.requires.1.0 start.requires.1.1
+    packed-length c.loop-k.invariant c.requires.1.0 c.requires.1.1
 
 pub returns : goal.returns
 returns c =
-    let start = c in
-    packed_all c.loop-k.invariant start.requires.1.0 start.requires.1.1 c.loop-k-test.false
+    packed_all c.loop-k.invariant c.requires.1.0 c.requires.1.1 c.loop-k-test.false

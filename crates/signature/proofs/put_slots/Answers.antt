@@ -19,52 +19,45 @@ loop-k-init c = unpacked_none _ _ _ _ _ (omega arith) (omega arith)
 
 pub value-e-requires : goal.value-e-requires
 value-e-requires c =
-    let start = c in
-    value_inside start.args.p _ _ (omega (arith, exact-long start.args.p start.args.s.now start.requires.1.0))
+    value_inside c.args.p _ _ (omega (arith, exact-long c.args.p c.args.s.now c.requires.1.0))
     c.loop-k-test.true
 
 pub put_slot-requires : goal.put_slot-requires
-put_slot-requires c =
-    let start = c in (
-      start.requires.0,
-      unpacked_inside c.loop-k.invariant start.requires.1.0 start.requires.1.1
-          c.loop-k-test.true _ c.value-e.ensures,
-    )
+put_slot-requires c = (
+  c.requires.0,
+  unpacked_inside c.loop-k.invariant c.requires.1.0 c.requires.1.1
+      c.loop-k-test.true _ c.value-e.ensures,
+)
 
 pub overflow_add-at-in-loop-k : goal.overflow_add-at-in-loop-k
 overflow_add-at-in-loop-k c =
-    let start = c in
     omega (
       arith,
       reached-most c.loop-k.invariant.reached
-          start.requires.0,
-      sizes_bounds start.args.p c.value-e.result,
-      round_most≤ start.requires.0,
+          c.requires.0,
+      sizes_bounds c.args.p c.value-e.result,
+      round_most≤ c.requires.0,
     )
 
 pub overflow_add-to-in-loop-k : goal.overflow_add-to-in-loop-k
 overflow_add-to-in-loop-k c =
-    let start = c in
     omega (
       arith,
-      unpacked_most c.loop-k.invariant start.requires.1.0
-          start.requires.1.1 start.requires.0 c.loop-k-test.true,
+      unpacked_most c.loop-k.invariant c.requires.1.0
+          c.requires.1.1 c.requires.0 c.loop-k-test.true,
     )
 
 pub loop-k-preserved : goal.loop-k-preserved
 loop-k-preserved c =
-    let start = c in
-    unpacked_more c.loop-k.invariant start.requires.1.0 start.requires.1.1
+    unpacked_more c.loop-k.invariant c.requires.1.0 c.requires.1.1
     c.loop-k-test.true _ _ _ c.value-e.ensures
     c.round_length-at.ensures c.round_most-most.ensures
     c.put_slot.ensures
 
 pub shape_of-output : goal.shape_of-output
 shape_of-output c =
-    let start = c in
-    unpacked_length_lem c.loop-k.invariant start.requires.1.0 start.requires.1.1
+    unpacked_length_lem c.loop-k.invariant c.requires.1.0 c.requires.1.1
 
 pub returns : goal.returns
 returns c =
-    let start = c in
-    unpacked_all c.loop-k.invariant start.requires.1.0 start.requires.1.1 c.loop-k-test.false
+    unpacked_all c.loop-k.invariant c.requires.1.0 c.requires.1.1 c.loop-k-test.false

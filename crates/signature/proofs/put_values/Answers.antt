@@ -10,8 +10,7 @@ loop-k-init c = (valued_none _ _, omega arith)
 
 pub value-requires : goal.value-requires
 value-requires c =
-    let start = c in
-    value_inside start.args.p _ _ start.requires.1.0 c.loop-k-test.true
+    value_inside c.args.p _ _ c.requires.1.0 c.loop-k-test.true
 
 pub bounds-output-k : goal.bounds-output-k
 bounds-output-k c = omega (arith, valued_length c.loop-k.invariant.0)
@@ -24,5 +23,4 @@ shape_of-output c = valued_length c.loop-k.invariant.0
 
 pub returns : goal.returns
 returns c =
-    let start = c in
-    let e : c.loop-k.k ≡ start.args.p.t = omega arith in valued_all c.loop-k.invariant.0 start.args.p e
+    let e : c.loop-k.k ≡ c.args.p.t = omega arith in valued_all c.loop-k.invariant.0 c.args.p e

@@ -8,14 +8,12 @@ use Rattle.signature.proofs.read.Goals as goal
 
 pub returns-in_default : goal.returns-in_default
 returns-in_default c =
-    let start = c in
-    promise_refused _ NoSet _ _ _ (read_unknown _ start.args.s.now _
+    promise_refused _ NoSet _ _ _ (read_unknown _ c.args.s.now _
     (sym c.numbered-chosen.ensures ∙ c.in_default.is)) c.answer.ensures refl
 
 pub read_into-requires : goal.read_into-requires
 read_into-requires c =
-    let start = c in
-    known_set start.args.set _ (sym c.numbered-chosen.ensures ∙ c.in-Known.is)
+    known_set c.args.set _ (sym c.numbered-chosen.ensures ∙ c.in-Known.is)
 
 pub returns : goal.returns
 returns c = read_known _ _ (sym c.numbered-chosen.ensures ∙ c.in-Known.is) _ _ _ _ _ c.read_into.ensures

@@ -13,29 +13,25 @@ loop-k-init c = cleaned_none _ _ _ (omega arith)
 
 pub slot_clean-requires : goal.slot_clean-requires
 slot_clean-requires c =
-    let start = c in
-    (start.requires.0, cleaned_inside c.loop-k.invariant start.requires.1 c.loop-k-test.true)
+    (c.requires.0, cleaned_inside c.loop-k.invariant c.requires.1 c.loop-k-test.true)
 
 pub returns-then-not-slot_clean : goal.returns-then-not-slot_clean
 returns-then-not-slot_clean c =
-    let start = c in
-    cleaned_fails c.loop-k.invariant start.requires.1 c.loop-k-test.true
+    cleaned_fails c.loop-k.invariant c.requires.1 c.loop-k-test.true
     (sym (c.if-not-slot_clean.true) ∙ c.slot_clean.ensures)
 
 pub overflow_add-at-in-loop-k : goal.overflow_add-at-in-loop-k
 overflow_add-at-in-loop-k c =
-    let start = c in
     omega (
       arith,
-      cleaned_inside c.loop-k.invariant start.requires.1
+      cleaned_inside c.loop-k.invariant c.requires.1
           c.loop-k-test.true,
-      unpacked≤ start.requires.0,
+      unpacked≤ c.requires.0,
     )
 
 pub loop-k-preserved : goal.loop-k-preserved
 loop-k-preserved c =
-    let start = c in
-    cleaned_more c.loop-k.invariant start.requires.1 c.loop-k-test.true
+    cleaned_more c.loop-k.invariant c.requires.1 c.loop-k-test.true
     (sym (c.if-not-slot_clean.false) ∙ c.slot_clean.ensures) _ c.round_most-most.ensures
 
 pub returns : goal.returns

@@ -11,19 +11,15 @@ overflow_add-end c = omega (arith, header_length≤ c.requires.0)
 
 pub put_values-requires : goal.put_values-requires
 put_values-requires c =
-    let start = c in
-    (start.requires.0, (omega (arith, exact-long start.args.p start.args.s.now start.requires.1.0), omega arith))
+    (c.requires.0, (omega (arith, exact-long c.args.p c.args.s.now c.requires.1.0), omega arith))
 
 pub slice_bounds-place-end : goal.slice_bounds-place-end
 slice_bounds-place-end c =
-    let start = c in
-    omega (arith, exact-long start.args.p start.args.s.now start.requires.1.0)
+    omega (arith, exact-long c.args.p c.args.s.now c.requires.1.0)
 
 pub returns : goal.returns
 returns c =
-    let start =
-    c in
-    unpacked start.args.p start.args.s.now start.args.output.now start.requires.1.0 start.requires.1.1 _ _
+    unpacked c.args.p c.args.s.now c.args.output.now c.requires.1.0 c.requires.1.1 _ _
     c.header-from.ensures refl
     c.put_values.ensures
     c.place.ensures c.put_slots.ensures

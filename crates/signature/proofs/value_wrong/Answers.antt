@@ -10,18 +10,15 @@ loop-k-init c = passed_none is_value _ _
 
 pub returns-then-x-k-ge3 : goal.returns-then-x-k-ge3
 returns-then-x-k-ge3 c =
-    let start = c in
-    value_wrong_lem start.args.p start.args.x.now _
-    (passed_fails is_value start.args.x.now _ _ _ start.requires.1 c.loop-k-test.true refl
+    value_wrong_lem c.args.p c.args.x.now _
+    (passed_fails is_value c.args.x.now _ _ _ c.requires.1 c.loop-k-test.true refl
     (le-ltb _ 3 c.if-x-k-ge3.true))
 
 pub loop-k-preserved : goal.loop-k-preserved
 loop-k-preserved c =
-    let start = c in
-    passed-more c.loop-k.invariant start.requires.1 c.loop-k-test.true _ refl
+    passed-more c.loop-k.invariant c.requires.1 c.loop-k-test.true _ refl
     (lt-ltb _ 3 c.if-x-k-ge3.false)
 
 pub returns : goal.returns
 returns c =
-    let start = c in
-    value_wrong_lem start.args.p start.args.x.now _ (passed-all c.loop-k.invariant c.loop-k-test.false)
+    value_wrong_lem c.args.p c.args.x.now _ (passed-all c.loop-k.invariant c.loop-k-test.false)

@@ -8,14 +8,12 @@ use Rattle.signature.proofs.write.Goals as goal
 
 pub returns-in_default : goal.returns-in_default
 returns-in_default c =
-    let start = c in
-    promise_refused _ NoSet _ _ _ (write_unknown _ start.args.x.now _
+    promise_refused _ NoSet _ _ _ (write_unknown _ c.args.x.now _
     (sym c.numbered-chosen.ensures ∙ c.in_default.is)) c.answer.ensures refl
 
 pub write_into-requires : goal.write_into-requires
 write_into-requires c =
-    let start = c in
-    known_set start.args.set _ (sym c.numbered-chosen.ensures ∙ c.in-Known.is)
+    known_set c.args.set _ (sym c.numbered-chosen.ensures ∙ c.in-Known.is)
 
 pub returns : goal.returns
 returns c = write_known _ _ (sym c.numbered-chosen.ensures ∙ c.in-Known.is) _ _ _ _ _ c.write_into.ensures

@@ -9,41 +9,36 @@ use Rattle.signature.proofs.write_into.Goals as goal
 
 pub returns-then-output-longest : goal.returns-then-output-longest
 returns-then-output-longest c =
-    let start = c in
-    promise_refused _ Room _ _ _ (write-small start.args.p start.args.x.now _ (omega arith)) c.answer.ensures refl
+    promise_refused _ Room _ _ _ (write-small c.args.p c.args.x.now _ (omega arith)) c.answer.ensures refl
 
 pub pack-n-requires : goal.pack-n-requires
-pack-n-requires c =
-    let start = c in (
-      start.requires,
-      (
-        write-passed start.args.p start.args.x.now _ _ c.check_form-r.ensures
-            c.fine.ensures c.if-fine.true,
-        omega arith,
-      ),
-    )
+pack-n-requires c = (
+  c.requires,
+  (
+    write-passed c.args.p c.args.x.now _ _ c.check_form-r.ensures
+        c.fine.ensures c.if-fine.true,
+    omega arith,
+  ),
+)
 
 pub overflow_cast-n : goal.overflow_cast-n
 overflow_cast-n c =
-    let start = c in
     omega (
       arith,
       c.pack-n.ensures.0,
-      signature-small start.requires start.args.x.now
-          (write-passed start.args.p start.args.x.now _ _ c.check_form-r.ensures
+      signature-small c.requires c.args.x.now
+          (write-passed c.args.p c.args.x.now _ _ c.check_form-r.ensures
           c.fine.ensures c.if-fine.true),
     )
 
 pub returns-then-fine : goal.returns-then-fine
 returns-then-fine c =
-    let start = c in
-    promise_given _ _ _ _ _ (write_done start.args.p start.args.x.now _ (omega arith) _
+    promise_given _ _ _ _ _ (write_done c.args.p c.args.x.now _ (omega arith) _
     c.check_form-r.ensures
     (sym c.fine.ensures ∙ c.if-fine.true))
     (c.answer-then-fine.ensures ∙ ap (answer Fine) c.pack-n.ensures.0) c.pack-n.ensures.1
 
 pub returns : goal.returns
 returns c =
-    let start = c in
-    promise_refused _ _ _ _ _ (write-refused start.args.p start.args.x.now _ (omega arith) _
+    promise_refused _ _ _ _ _ (write-refused c.args.p c.args.x.now _ (omega arith) _
     c.check_form-r.ensures (sym c.fine.ensures ∙ c.if-fine.false)) c.answer-2.ensures refl

@@ -13,17 +13,15 @@ loop-i-init c = passed_none is_zero _ _
 
 pub returns-then-x-at-ne0 : goal.returns-then-x-at-ne0
 returns-then-x-at-ne0 c =
-    let start = c in
-    sym (passed_fails is_zero (drop start.args.at start.args.x.now) _ _ _
-    (omega (arith, length-drop start.args.at start.args.x.now)) c.loop-i-test.true
-    (sym (get_or-drop start.args.at start.args.x.now c.loop-i.i 0)) (ne_eqb _ 0 c.if-x-at-ne0.true))
+    sym (passed_fails is_zero (drop c.args.at c.args.x.now) _ _ _
+    (omega (arith, length-drop c.args.at c.args.x.now)) c.loop-i-test.true
+    (sym (get_or-drop c.args.at c.args.x.now c.loop-i.i 0)) (ne_eqb _ 0 c.if-x-at-ne0.true))
 
 pub loop-i-preserved : goal.loop-i-preserved
 loop-i-preserved c =
-    let start = c in
-    passed-more c.loop-i.invariant (omega (arith, length-drop start.args.at start.args.x.now))
+    passed-more c.loop-i.invariant (omega (arith, length-drop c.args.at c.args.x.now))
     c.loop-i-test.true _ (sym
-    (get_or-drop start.args.at start.args.x.now c.loop-i.i 0)) (eq-eqb _ 0 c.if-x-at-ne0.false)
+    (get_or-drop c.args.at c.args.x.now c.loop-i.i 0)) (eq-eqb _ 0 c.if-x-at-ne0.false)
 
 pub returns : goal.returns
 returns c = sym (passed-all c.loop-i.invariant c.loop-i-test.false)

@@ -12,21 +12,18 @@ overflow_mul-from c = omega (arith, (sizes c.requires.0).rounds)
 
 pub overflow_mul-from-2 : goal.overflow_mul-from-2
 overflow_mul-from-2 c =
-    let s = c in
-    omega (arith, salt_place s.args.p s.args.seeds.now _ c.seed_width.ensures s.requires.1, s.requires.1, seeds-small s.requires.0)
+    omega (arith, salt_place c.args.p c.args.seeds.now _ c.seed_width.ensures c.requires.1, c.requires.1, seeds-small c.requires.0)
 
 pub slice_bounds-challenge-end : goal.slice_bounds-challenge-end
 slice_bounds-challenge-end c = sym (length-take-le _ _ (omega (arith, c.requires.2, c.room_length-n.ensures)))
 
 pub slice_bounds-challenge-count : goal.slice_bounds-challenge-count
 slice_bounds-challenge-count c =
-    let s = c in
-    omega (arith, salt_place s.args.p s.args.seeds.now _ c.seed_width.ensures s.requires.1)
+    omega (arith, salt_place c.args.p c.args.seeds.now _ c.seed_width.ensures c.requires.1)
 
 pub slice_bounds-challenge-start : goal.slice_bounds-challenge-start
 slice_bounds-challenge-start c =
-    let s = c in
-    omega (arith, salt_place s.args.p s.args.seeds.now _ c.seed_width.ensures s.requires.1)
+    omega (arith, salt_place c.args.p c.args.seeds.now _ c.seed_width.ensures c.requires.1)
 
 pub returns : goal.returns
 returns c =

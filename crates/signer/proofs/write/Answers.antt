@@ -6,8 +6,7 @@ use Rattle.signer.proofs.write.Goals as goal
 
 pub write_front-requires : goal.write_front-requires
 write_front-requires c =
-    let start = c in
-    (start.requires.0.lent.is_set, start.requires.0.seeds-long, start.requires.1, start.requires.2, omega (arith, start.requires.3))
+    (c.requires.0.lent.is_set, c.requires.0.seeds-long, c.requires.1, c.requires.2, omega (arith, c.requires.3))
 
 pub overflow_add-at : goal.overflow_add-at
 overflow_add-at c = omega (arith, header_length≤ c.requires.0.lent.is_set)
@@ -19,31 +18,27 @@ pub bounds-values-t : goal.bounds-values-t
 bounds-values-t c = omega (arith, c.requires.1)
 
 pub write_round-at-requires : goal.write_round-at-requires
-write_round-at-requires c =
-    let start = c in (
-      start.requires.0,
-      c.loop-t-test.true,
-      start.requires.2 _,
-      rounds_inside start.requires.0.lent.is_set _ _ _ _ _ _ _ start.requires.0.seeds-long start.requires.1 c.loop-t.invariant (omega (arith, start.requires.3)) c.loop-t-test.true,
-    )
+write_round-at-requires c = (
+  c.requires.0,
+  c.loop-t-test.true,
+  c.requires.2 _,
+  rounds_inside c.requires.0.lent.is_set _ _ _ _ _ _ _ c.requires.0.seeds-long c.requires.1 c.loop-t.invariant (omega (arith, c.requires.3)) c.loop-t-test.true,
+)
 
 pub overflow_add-t : goal.overflow_add-t
 overflow_add-t c = omega (arith, t≤ c.requires.0.lent.is_set, c.loop-t-test.true)
 
 pub loop-t-preserved : goal.loop-t-preserved
 loop-t-preserved c =
-    let start = c in
-    rounds-more start.requires.0.lent.is_set _ _ _ _ _ _ _ start.requires.0.seeds-long start.requires.1 c.loop-t.invariant (omega (arith, start.requires.3)) c.loop-t-test.true c.write_round-at.ensures.0 c.write_round-at.ensures.1
+    rounds-more c.requires.0.lent.is_set _ _ _ _ _ _ _ c.requires.0.seeds-long c.requires.1 c.loop-t.invariant (omega (arith, c.requires.3)) c.loop-t-test.true c.write_round-at.ensures.0 c.write_round-at.ensures.1
 
 pub shape_of-output : goal.shape_of-output
 shape_of-output c =
-    let start = c in
-    omega (arith, rounds-length start.requires.0.lent.is_set _ _ _ _ _ _ _ start.requires.0.seeds-long start.requires.1 c.loop-t.invariant (omega (arith, start.requires.3)))
+    omega (arith, rounds-length c.requires.0.lent.is_set _ _ _ _ _ _ _ c.requires.0.seeds-long c.requires.1 c.loop-t.invariant (omega (arith, c.requires.3)))
 
 pub returns : goal.returns
 returns c =
-    let start = c in
     let u = c.loop-t.invariant in (
-      rounds_end start.requires.0.lent.is_set _ _ _ _ _ _ _ start.requires.0.seeds-long start.requires.1 u _ start.requires.3 c.write_front.ensures c.loop-t-test.false,
-      rounds-all start.requires.0.lent.is_set _ _ _ _ _ _ _ start.requires.0.seeds-long start.requires.1 u _ start.requires.3 c.write_front.ensures c.loop-t-test.false,
+      rounds_end c.requires.0.lent.is_set _ _ _ _ _ _ _ c.requires.0.seeds-long c.requires.1 u _ c.requires.3 c.write_front.ensures c.loop-t-test.false,
+      rounds-all c.requires.0.lent.is_set _ _ _ _ _ _ _ c.requires.0.seeds-long c.requires.1 u _ c.requires.3 c.write_front.ensures c.loop-t-test.false,
     )

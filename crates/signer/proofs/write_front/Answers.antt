@@ -10,30 +10,24 @@ overflow_mul-from c = omega (arith, t≤ c.requires.0)
 
 pub overflow_mul-from-2 : goal.overflow_mul-from-2
 overflow_mul-from-2 c =
-    let start = c in
-    omega (arith, salt_place start.args.p start.args.seeds.now _ c.seed_width.ensures start.requires.1, start.requires.1, seeds-small start.requires.0)
+    omega (arith, salt_place c.args.p c.args.seeds.now _ c.seed_width.ensures c.requires.1, c.requires.1, seeds-small c.requires.0)
 
 pub put_header-requires : goal.put_header-requires
 put_header-requires c =
-    let start = c in
-    (start.requires.0, (start.requires.2, (start.requires.3, omega arith)))
+    (c.requires.0, (c.requires.2, (c.requires.3, omega arith)))
 
 pub slice_bounds-place-count : goal.slice_bounds-place-count
 slice_bounds-place-count c =
-    let start = c in
-    omega (arith, salt_place start.args.p start.args.seeds.now _ c.seed_width.ensures start.requires.1)
+    omega (arith, salt_place c.args.p c.args.seeds.now _ c.seed_width.ensures c.requires.1)
 
 pub slice_bounds-place-start : goal.slice_bounds-place-start
 slice_bounds-place-start c =
-    let start = c in
-    omega (arith, salt_place start.args.p start.args.seeds.now _ c.seed_width.ensures start.requires.1)
+    omega (arith, salt_place c.args.p c.args.seeds.now _ c.seed_width.ensures c.requires.1)
 
 pub place-requires : goal.place-requires
 place-requires c =
-    let start = c in
-    omega (arith, length_salt_part start.args.p start.args.seeds.now _ c.seed_width.ensures start.requires.1, start.requires.4)
+    omega (arith, length_salt_part c.args.p c.args.seeds.now _ c.seed_width.ensures c.requires.1, c.requires.4)
 
 pub returns : goal.returns
 returns c =
-    let start = c in
-    front_put start.args.p start.args.seeds.now start.args.values.now start.args.output.now _ _ start.requires.1 start.requires.4 c.seed_width.ensures c.header.ensures c.put_header.ensures c.place.ensures
+    front_put c.args.p c.args.seeds.now c.args.values.now c.args.output.now _ _ c.requires.1 c.requires.4 c.seed_width.ensures c.header.ensures c.put_header.ensures c.place.ensures

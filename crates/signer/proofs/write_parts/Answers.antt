@@ -20,8 +20,7 @@ overflow_add-a c = omega (arith, t≤ c.requires.0)
 
 pub overflow_mul-a-2 : goal.overflow_mul-a-2
 overflow_mul-a-2 c =
-    let start = c in
-    omega (arith, placed start.args.seeds.now start.requires.0 start.requires.1 start.requires.2 start.requires.3 c.seed_width-s.ensures)
+    omega (arith, placed c.args.seeds.now c.requires.0 c.requires.1 c.requires.2 c.requires.3 c.seed_width-s.ensures)
 
 pub overflow_mul-b : goal.overflow_mul-b
 overflow_mul-b c = omega (arith, t≤ c.requires.0)
@@ -31,8 +30,7 @@ overflow_add-b-2 c = omega (arith, t≤ c.requires.0)
 
 pub overflow_mul-b-2 : goal.overflow_mul-b-2
 overflow_mul-b-2 c =
-    let start = c in
-    omega (arith, placed-next start.args.seeds.now start.requires.0 start.requires.1 start.requires.2 start.args.e c.seed_width-s.ensures)
+    omega (arith, placed-next c.args.seeds.now c.requires.0 c.requires.1 c.requires.2 c.args.e c.seed_width-s.ensures)
 
 pub slice_bounds-commitment-end : goal.slice_bounds-commitment-end
 slice_bounds-commitment-end c = omega (arith, (sizes c.requires.0).digest)
@@ -52,23 +50,19 @@ slice_bounds-put_round-end-2 c =
 
 pub overflow_add-a-2 : goal.overflow_add-a-2
 overflow_add-a-2 c =
-    let start = c in
-    omega (arith, placed start.args.seeds.now start.requires.0 start.requires.1 start.requires.2 start.requires.3 c.seed_width-s.ensures)
+    omega (arith, placed c.args.seeds.now c.requires.0 c.requires.1 c.requires.2 c.requires.3 c.seed_width-s.ensures)
 
 pub slice_bounds-put_round-end-3 : goal.slice_bounds-put_round-end-3
 slice_bounds-put_round-end-3 c =
-    let start = c in
-    omega (arith, placed start.args.seeds.now start.requires.0 start.requires.1 start.requires.2 start.requires.3 c.seed_width-s.ensures)
+    omega (arith, placed c.args.seeds.now c.requires.0 c.requires.1 c.requires.2 c.requires.3 c.seed_width-s.ensures)
 
 pub overflow_add-b-3 : goal.overflow_add-b-3
 overflow_add-b-3 c =
-    let start = c in
-    omega (arith, placed-next start.args.seeds.now start.requires.0 start.requires.1 start.requires.2 start.args.e c.seed_width-s.ensures)
+    omega (arith, placed-next c.args.seeds.now c.requires.0 c.requires.1 c.requires.2 c.args.e c.seed_width-s.ensures)
 
 pub slice_bounds-put_round-end-4 : goal.slice_bounds-put_round-end-4
 slice_bounds-put_round-end-4 c =
-    let start = c in
-    omega (arith, placed-next start.args.seeds.now start.requires.0 start.requires.1 start.requires.2 start.args.e c.seed_width-s.ensures)
+    omega (arith, placed-next c.args.seeds.now c.requires.0 c.requires.1 c.requires.2 c.args.e c.seed_width-s.ensures)
 
 pub slice_bounds-share-end : goal.slice_bounds-share-end
 slice_bounds-share-end c = omega (arith, (sizes c.requires.0).width, c.width-w.ensures)
@@ -80,17 +74,15 @@ slice_bounds-put_round-end-5 c =
 
 pub put_round-requires : goal.put_round-requires
 put_round-requires c =
-    let start = c in
-    let lc : length start.args.commitment ≡ 64 = search rules in
-    let ls : length start.args.said ≡ 143 = search rules in
-    let lx : length start.args.share ≡ 32 = search rules in
-    (start.requires.0, (lent-sized start.args.p start.args.t start.args.e _ _ _ c.transcript-m.ensures c.width-w.ensures c.seed_width-s.ensures _ _ _ _ start.requires.0 lc ls lx start.requires.1 start.requires.2 start.requires.3, start.requires.4))
+    let lc : length c.args.commitment ≡ 64 = search rules in
+    let ls : length c.args.said ≡ 143 = search rules in
+    let lx : length c.args.share ≡ 32 = search rules in
+    (c.requires.0, (lent-sized c.args.p c.args.t c.args.e _ _ _ c.transcript-m.ensures c.width-w.ensures c.seed_width-s.ensures _ _ _ _ c.requires.0 lc ls lx c.requires.1 c.requires.2 c.requires.3, c.requires.4))
 
 pub returns : goal.returns
-returns c =
-    let start = c in (
-      c.put_round.ensures.0,
-      c.put_round.ensures.1
-          ∙ ap (λ (u : Shown). put start.args.output.now start.args.at (round_of start.args.p start.args.e u))
-          (lent_parts start.args.p start.args.t start.args.e _ _ _ c.transcript-m.ensures c.width-w.ensures c.seed_width-s.ensures start.args.commitment start.args.said start.args.share start.args.seeds.now start.requires.3),
-    )
+returns c = (
+  c.put_round.ensures.0,
+  c.put_round.ensures.1
+      ∙ ap (λ (u : Shown). put c.args.output.now c.args.at (round_of c.args.p c.args.e u))
+      (lent_parts c.args.p c.args.t c.args.e _ _ _ c.transcript-m.ensures c.width-w.ensures c.seed_width-s.ensures c.args.commitment c.args.said c.args.share c.args.seeds.now c.requires.3),
+)

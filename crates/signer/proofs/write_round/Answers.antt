@@ -15,8 +15,7 @@ play-again-requires c =
 
 pub write_shown-requires : goal.write_shown-requires
 write_shown-requires c =
-    let start = c in
-    (start.requires.0.lent.is_set, start.requires.0.seeds-long, start.requires.1, start.requires.2, start.requires.3)
+    (c.requires.0.lent.is_set, c.requires.0.seeds-long, c.requires.1, c.requires.2, c.requires.3)
 
 pub returns : goal.returns
 returns c =

@@ -9,13 +9,12 @@ use Rattle.signer.proofs.write_shown.Goals as goal
 
 pub returns : goal.returns
 returns c =
-    let start = c in
-    let e = start.args.e in (
+    let e = c.args.e in (
       c.write_parts.ensures.0,
       λ keys layers constants secret block h.
           c.write_parts.ensures.1
-          ∙ ap (λ (u : Shown). put start.args.output.now start.args.at (round_of start.args.p e u))
-          (shown_as start.args.p keys layers constants secret block start.args.seeds.now start.args.t e start.args.x _ _ _ h
-          (c.commitment_of-commitment.ensures keys layers constants secret block (third (party_of e)) (number-last e start.requires.3) h)
-          (c.said_of-transcript.ensures (next (party_of e)) (number_after e start.requires.3)) c.shown_share-share.ensures),
+          ∙ ap (λ (u : Shown). put c.args.output.now c.args.at (round_of c.args.p e u))
+          (shown_as c.args.p keys layers constants secret block c.args.seeds.now c.args.t e c.args.x _ _ _ h
+          (c.commitment_of-commitment.ensures keys layers constants secret block (third (party_of e)) (number-last e c.requires.3) h)
+          (c.said_of-transcript.ensures (next (party_of e)) (number_after e c.requires.3)) c.shown_share-share.ensures),
     )

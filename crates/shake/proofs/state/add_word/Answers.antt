@@ -5,10 +5,8 @@ use Rattle.shake.proofs.state.add_word.Goals as goal
 
 pub returns-then-d-eq0 : goal.returns-then-d-eq0
 returns-then-d-eq0 c =
-    let s = c in
-    word_aligned s.args.a.now s.args.j s.args.w s.requires.0 s.requires.1 s.ranges.w.fits c.if-d-eq0.true
+    word_aligned c.args.a.now c.args.j c.args.w c.requires.0 c.requires.1 c.ranges.w.fits c.if-d-eq0.true
 
 pub returns : goal.returns
 returns c =
-    let s = c in
-    word_across s.args.a.now s.args.j s.args.w s.requires.0 s.requires.1 s.ranges.w.fits _ refl
+    word_across c.args.a.now c.args.j c.args.w c.requires.0 c.requires.1 c.ranges.w.fits _ refl

@@ -6,7 +6,5 @@ use Rattle.shake.proofs.state.give_part.Goals as goal
 
 pub returns-then-j-eq0 : goal.returns-then-j-eq0
 returns-then-j-eq0 c =
-    let b = c in
-    let w = b in
-    let g = w.args in
-    put_both g.out.now _ _ g.a.now g.j g.i (8 * (g.n / 8)) g.n (omega arith) (omega arith) w.give_words.ensures b.give_bytes.ensures
+    let g = c.args in
+    put_both g.out.now _ _ g.a.now g.j g.i (8 * (g.n / 8)) g.n (omega arith) (omega arith) c.give_words.ensures c.give_bytes.ensures

@@ -12,14 +12,12 @@ loop-q-init c = (omega arith, refl, put-bytes_at-none _ _ _ _)
 
 pub loop-q-preserved : goal.loop-q-preserved
 loop-q-preserved c =
-    let w = c in
-    let l = w.loop-q in
-    let start = w in
-    let g = start.args in
+    let l = c.loop-q in
+    let g = c.args in
     let z : 8 * l.q + 8 ≡ 8 * (l.q + 1) = omega arith in
     let e =
-    w.store.ensures
-    ∙ put-bytes_at g.out.now l.out g.a.now g.j g.i (8 * l.q) 8 _ (omega arith) l.invariant.2 (bytes_at-word g.a.now g.j l.q start.requires.0)
+    c.store.ensures
+    ∙ put-bytes_at g.out.now l.out g.a.now g.j g.i (8 * l.q) 8 _ (omega arith) l.invariant.2 (bytes_at-word g.a.now g.j l.q c.requires.0)
     ∙ ap (λ n. put g.out.now g.i (bytes_at g.a.now g.j n)) z in
     (omega arith, length-put-bytes_at g.out.now _ g.a.now g.j g.i (8 * (l.q + 1)) (omega arith) e, e)
 

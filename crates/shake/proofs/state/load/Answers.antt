@@ -10,23 +10,15 @@ use Rattle.shake.proofs.state.load.Goals as goal
 
 pub returns : goal.returns
 returns c =
-    let w6 = c in
-    let w5 = w6 in
-    let w4 = w5 in
-    let w3 = w4 in
-    let w2 = w3 in
-    let w1 = w2 in
-    let w0 = w1 in
-    let start = w0 in
-    let s = start.args.s.now in
-    let i = start.args.i in
-    let e0 = w0.wide-b0.ensures in
-    let e1 = w1.wide-b1.ensures in
-    let e2 = w2.wide-b2.ensures in
-    let e3 = w3.wide-b3.ensures in
-    let e4 = w4.wide-b4.ensures in
-    let e5 = w5.wide-b5.ensures in
-    let e6 = w6.wide-b6.ensures in
+    let s = c.args.s.now in
+    let i = c.args.i in
+    let e0 = c.wide-b0.ensures in
+    let e1 = c.wide-b1.ensures in
+    let e2 = c.wide-b2.ensures in
+    let e3 = c.wide-b3.ensures in
+    let e4 = c.wide-b4.ensures in
+    let e5 = c.wide-b5.ensures in
+    let e6 = c.wide-b6.ensures in
     let e7 = c.wide-b7.ensures in
     let t : part s (i + 0) 8 ≡ _ = window_part s i 0 8 (omega arith) in
     (made_more _ 7 _ _
