@@ -3,12 +3,11 @@
 // off is refused with the same number as the whole of it.
 #![tactic(auto)]
 
-ghost use Rattle.std.specs.Prelude.{◌≡◌, ◌≤◌, length, IfOk};
+ghost use Rattle.std.specs.Prelude.{◌≡◌};
 ghost use Rattle.layout.specs.Counts.{how_many};
 
 use sets::Set;
 use std::io;
-use std::io::Read;
 
 // The values that an unpacked form of set 1 starts with.
 const VALUES: usize = Set::L1.t;
@@ -34,21 +33,6 @@ fn field(rt: &impl Print, n: usize, end: char) -> io::Result<()> {
     print!(rt; "{n}{end}")
 }
 
-// Fills the buffer from the input, as far as the input goes, and says how many bytes that were.
-fn fill(input: &mut impl Read, buffer: &mut [u8]) -> io::Result<usize>
-    ensures { IfOk result (λ n. n ≤ length buffer.new) }
-{
-    let mut filled = 0;
-    while filled < buffer.len() {
-        let n = input.read(&mut buffer[filled..])?;
-        if n == 0 {
-            break;
-        }
-        filled += n;
-    }
-    Ok(filled)
-}
-
 // The layout of a signature of so many bytes with these values.
 fn print_layout(rt: &impl Print, length: usize, values: &[u8]) -> io::Result<()> {
     print!(rt; "signature\t1\t")?;
@@ -60,10 +44,10 @@ fn print_layout(rt: &impl Print, length: usize, values: &[u8]) -> io::Result<()>
 }
 
 fn main(rt: HostRuntime) -> io::Result<()> {
-    let mut input = [0u8; ROOM];
-    let n = fill(&mut rt.reader(), &mut input)?;
+    let mut bytes = [0u8; ROOM];
+    let n = input::fill(&mut rt.reader(), &mut bytes)?;
     let mut form = [0u8; ROOM];
-    let answer = signature::read(1, &input[..n], &mut form);
+    let answer = signature::read(1, &bytes[..n], &mut form);
     // The upper half of an answer is the number of a refusal, or 0.
     let refusal = (answer / 0x1_0000_0000) as usize;
     if refusal != 0 {

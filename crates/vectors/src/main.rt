@@ -1,9 +1,8 @@
 // Runs published vectors against the library and prints, for each file, how many cases it has and how many agree.
 #![tactic(auto)]
 
-ghost use Rattle.std.specs.Prelude.{◌≡◌, ◌+◌, ◌^◌, ◌≤◌, ◌<◌, length, IfOk, IfSome};
+ghost use Rattle.std.specs.Prelude.{◌≡◌, ◌+◌, ◌^◌, ◌≤◌, ◌<◌, length, IfSome};
 
-use std::io::Read;
 use std::rt::Files;
 use std::{fs, io};
 
@@ -136,21 +135,6 @@ fn show(rt: &impl Print, name: &str, tally: Tally) -> io::Result<()> {
     println!(rt; "{name}\t{cases} cases\t{agree} agree")
 }
 
-// Fills the buffer from the file, as far as the file goes, and says how many bytes that were.
-fn fill(file: &mut impl Read, buffer: &mut [u8]) -> io::Result<usize>
-    ensures { IfOk result (λ n. n ≤ length buffer.new) }
-{
-    let mut filled = 0;
-    while filled < buffer.len() {
-        let n = file.read(&mut buffer[filled..])?;
-        if n == 0 {
-            break;
-        }
-        filled += n;
-    }
-    Ok(filled)
-}
-
 // A buffer of zeros. It is proved for every length, since a proof for ROOM would count that far.
 fn zeros<const N: usize>() -> [u8; N]
     ensures { length result ≡ N }
@@ -165,7 +149,7 @@ fn shake_file(rt: &(impl Files + Print + Eprint), name: &str, set: u64) -> io::R
         Err(error) => return eprintln!(rt; "{name}: {error}"),
     };
     let mut text = zeros::<ROOM>();
-    let n = fill(&mut file, &mut text)?;
+    let n = input::fill(&mut file, &mut text)?;
     show(rt, name, shake_cases(set, &text[..n]))
 }
 

@@ -1,6 +1,6 @@
 -- Each read that goes on fills a byte or more.
 use Rattle.std.proofs.Common.{length, ◌-◌, ◌≤◌}
-use Rattle.layout.proofs.fill.Given as goal
+use Rattle.input.proofs.fill.Given as goal
 
 abbrev pub invariant-loop-filled : goal.invariant-loop-filled
 invariant-loop-filled g l = l.filled ≤ length l.buffer

@@ -1,9 +1,0 @@
--- Each read that goes on fills a byte or more.
-use Rattle.std.proofs.Common.{length, ◌-◌, ◌≤◌}
-use Rattle.vectors.proofs.fill.Given as goal
-
-abbrev pub invariant-loop-filled : goal.invariant-loop-filled
-invariant-loop-filled g l = l.filled ≤ length l.buffer
-
-abbrev pub decreases-loop-filled : goal.decreases-loop-filled
-decreases-loop-filled g l = length l.initial.buffer - l.filled
