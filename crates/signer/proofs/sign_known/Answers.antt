@@ -1,6 +1,5 @@
 -- `signer::sign_known` meets its contract.
 use mathlib.Core.Path.{sym, ◌∙◌}
-use Prim.Native.Nat.{ℕ}
 use Rattle.lowmc.specs.Encrypted.{plaintext}
 use Rattle.signer.proofs.SignLaws.{handed, fitting, stopped, unpaired, signed}
 use borrow.Author.Rules.{rules}
@@ -8,37 +7,32 @@ use Rattle.signer.proofs.sign_known.Goals as goal
 
 pub returns-then-not-fine : goal.returns-then-not-fine
 returns-then-not-fine c =
-    let a = c.args in
-    let g = λ (set : ℕ). handed set a.keys.now a.layers.now a.constants.now a.secret.now a.public.now a.message.now a.limit a.seeds.now a.room.now a.output.now in
-    λ set e. stopped (g set) _ e c.refused-why.ensures (sym c.fine.ensures ∙ c.if-not-fine.true) c.answer.ensures
+    λ set e. stopped _ _ e c.refused-why.ensures (sym c.fine.ensures ∙ c.if-not-fine.true) c.answer.ensures
 
 pub traced-requires : goal.traced-requires
 traced-requires c =
     let a = c.args in
-    let g = λ (set : ℕ). handed set a.keys.now a.layers.now a.constants.now a.secret.now a.public.now a.message.now a.limit a.seeds.now a.room.now a.output.now in
-    let f = fitting c.requires (g 0) _ c.refused-why.ensures (sym c.fine.ensures ∙ c.if-not-fine.false) in
+    let g = handed 0 a.keys.now a.layers.now a.constants.now a.secret.now a.public.now a.message.now a.limit a.seeds.now a.room.now a.output.now in
+    let f = fitting c.requires g _ c.refused-why.ensures (sym c.fine.ensures ∙ c.if-not-fine.false) in
     (f.lent, f.secret-wide, f.public-long, search rules)
 
 pub paired-requires : goal.paired-requires
 paired-requires c =
     let a = c.args in
-    let g = λ (set : ℕ). handed set a.keys.now a.layers.now a.constants.now a.secret.now a.public.now a.message.now a.limit a.seeds.now a.room.now a.output.now in
-    let f = fitting c.requires (g 0) _ c.refused-why.ensures (sym c.fine.ensures ∙ c.if-not-fine.false) in
+    let g = handed 0 a.keys.now a.layers.now a.constants.now a.secret.now a.public.now a.message.now a.limit a.seeds.now a.room.now a.output.now in
+    let f = fitting c.requires g _ c.refused-why.ensures (sym c.fine.ensures ∙ c.if-not-fine.false) in
     (c.requires, search rules, f.public-long)
 
 pub returns-then-not-paired : goal.returns-then-not-paired
 returns-then-not-paired c =
-    let a = c.args in
-    let g = λ (set : ℕ). handed set a.keys.now a.layers.now a.constants.now a.secret.now a.public.now a.message.now a.limit a.seeds.now a.room.now a.output.now in
-    let z = g 0 in
-    let b = c.paired.ensures z.keys z.layers z.constants z.secret (plaintext c.args.p z.public) c.traced.ensures in
-    λ set e. unpaired (g set) _ e c.refused-why.ensures (sym c.fine.ensures ∙ c.if-not-fine.false) (sym b ∙ c.if-not-paired.true) c.answer-then-not-paired.ensures
+    let b = c.paired.ensures c.args.keys.now c.args.layers.now c.args.constants.now c.args.secret.now (plaintext c.args.p c.args.public.now) c.traced.ensures in
+    λ set e. unpaired _ _ e c.refused-why.ensures (sym c.fine.ensures ∙ c.if-not-fine.false) (sym b ∙ c.if-not-paired.true) c.answer-then-not-paired.ensures
 
 pub sign_ready-requires : goal.sign_ready-requires
 sign_ready-requires c =
     let a = c.args in
-    let g = λ (set : ℕ). handed set a.keys.now a.layers.now a.constants.now a.secret.now a.public.now a.message.now a.limit a.seeds.now a.room.now a.output.now in
-    let f = fitting c.requires (g 0) _ c.refused-why.ensures (sym c.fine.ensures ∙ c.if-not-fine.false) in (
+    let g = handed 0 a.keys.now a.layers.now a.constants.now a.secret.now a.public.now a.message.now a.limit a.seeds.now a.room.now a.output.now in
+    let f = fitting c.requires g _ c.refused-why.ensures (sym c.fine.ensures ∙ c.if-not-fine.false) in (
       record { lent = f.lent; secret-wide = f.secret-wide; public-long = f.public-long; seeds-long = f.seeds-long; traced = c.traced.ensures; states_long = search rules },
       f.room-enough,
       f.output-enough,
@@ -46,8 +40,5 @@ sign_ready-requires c =
 
 pub returns : goal.returns
 returns c =
-    let a = c.args in
-    let g = λ (set : ℕ). handed set a.keys.now a.layers.now a.constants.now a.secret.now a.public.now a.message.now a.limit a.seeds.now a.room.now a.output.now in
-    let z = g 0 in
-    let b = c.paired.ensures z.keys z.layers z.constants z.secret (plaintext c.args.p z.public) c.traced.ensures in
-    λ set e. signed (g set) _ e c.refused-why.ensures (sym c.fine.ensures ∙ c.if-not-fine.false) (sym b ∙ c.if-not-paired.false) (c.sign_ready.ensures set)
+    let b = c.paired.ensures c.args.keys.now c.args.layers.now c.args.constants.now c.args.secret.now (plaintext c.args.p c.args.public.now) c.traced.ensures in
+    λ set e. signed _ _ e c.refused-why.ensures (sym c.fine.ensures ∙ c.if-not-fine.false) (sym b ∙ c.if-not-paired.false) (c.sign_ready.ensures set)

@@ -1,6 +1,5 @@
 -- `signer::sign_ready` meets its contract.
 use mathlib.Core.Path.{sym}
-use Prim.Native.Nat.{ℕ}
 use native.Mathlib.Omega.{arith}
 use lib.ListN.{take}
 use lib.Seq.{length-take-le}
@@ -23,35 +22,34 @@ slice_bounds-write-end c = sym (length-take-le _ _ (omega (arith, (sizes c.requi
 pub write-length-requires : goal.write-length-requires
 write-length-requires c =
     let a = c.args in
-    let g = λ (set : ℕ). handed set a.keys.now a.layers.now a.constants.now a.secret.now a.public.now a.message.now a.limit a.seeds.now a.room.now a.output.now in
+    let g = handed 0 a.keys.now a.layers.now a.constants.now a.secret.now a.public.now a.message.now a.limit a.seeds.now a.room.now a.output.now in
     let i = c.requires.0.lent.is_set in (
       c.requires.0,
-      length-values i (g 0) c.fill.ensures c.challenged-filled.ensures c.in-Full.is,
-      are_values i (g 0) c.fill.ensures c.challenged-filled.ensures c.in-Full.is,
+      length-values i g c.fill.ensures c.challenged-filled.ensures c.in-Full.is,
+      are_values i g c.fill.ensures c.challenged-filled.ensures c.in-Full.is,
       c.requires.2,
     )
 
 pub overflow_cast-length : goal.overflow_cast-length
 overflow_cast-length c =
     let a = c.args in
-    let g = λ (set : ℕ). handed set a.keys.now a.layers.now a.constants.now a.secret.now a.public.now a.message.now a.limit a.seeds.now a.room.now a.output.now in
+    let g = handed 0 a.keys.now a.layers.now a.constants.now a.secret.now a.public.now a.message.now a.limit a.seeds.now a.room.now a.output.now in
     let i = c.requires.0.lent.is_set in
-    let z = g 0 in
     let vs = take c.args.p.t c.challenged-filled.new.values in
-    omega (arith, c.write-length.ensures.0, signature_short i z.keys z.layers z.constants z.secret z.public z.seeds vs c.requires.0.seeds-long (length-values i z c.fill.ensures c.challenged-filled.ensures c.in-Full.is))
+    omega (arith, c.write-length.ensures.0, signature_short i a.keys.now a.layers.now a.constants.now a.secret.now a.public.now a.seeds.now vs c.requires.0.seeds-long (length-values i g c.fill.ensures c.challenged-filled.ensures c.in-Full.is))
 
 pub returns-in-Short : goal.returns-in-Short
 returns-in-Short c =
     let a = c.args in
-    let g = λ (set : ℕ). handed set a.keys.now a.layers.now a.constants.now a.secret.now a.public.now a.message.now a.limit a.seeds.now a.room.now a.output.now in
+    let g = handed 0 a.keys.now a.layers.now a.constants.now a.secret.now a.public.now a.message.now a.limit a.seeds.now a.room.now a.output.now in
     let i = c.requires.0.lent.is_set in
-    λ set. finished_few i (g set) c.fill.ensures c.challenged-filled.ensures c.in-Short.is c.answer.ensures
-    (room-cleared i (g set) c.fill.ensures _ c.room_length-needed.ensures c.clear.ensures)
+    λ set. finished_few i _ c.fill.ensures c.challenged-filled.ensures c.in-Short.is c.answer.ensures
+    (room-cleared i g c.fill.ensures _ c.room_length-needed.ensures c.clear.ensures)
 
 pub returns-in-Full : goal.returns-in-Full
 returns-in-Full c =
     let a = c.args in
-    let g = λ (set : ℕ). handed set a.keys.now a.layers.now a.constants.now a.secret.now a.public.now a.message.now a.limit a.seeds.now a.room.now a.output.now in
+    let g = handed 0 a.keys.now a.layers.now a.constants.now a.secret.now a.public.now a.message.now a.limit a.seeds.now a.room.now a.output.now in
     let i = c.requires.0.lent.is_set in
-    λ set. finished_full i (g set) c.fill.ensures c.challenged-filled.ensures c.in-Full.is c.write-length.ensures.0 c.write-length.ensures.1 c.answer-in-Full.ensures
-    (room-cleared i (g set) c.fill.ensures _ c.room_length-needed.ensures c.clear.ensures)
+    λ set. finished_full i _ c.fill.ensures c.challenged-filled.ensures c.in-Full.is c.write-length.ensures.0 c.write-length.ensures.1 c.answer-in-Full.ensures
+    (room-cleared i g c.fill.ensures _ c.room_length-needed.ensures c.clear.ensures)
