@@ -5,16 +5,15 @@ use Prim.Native.Nat.{ℕ}
 use lib.Dec.{T}
 use lib.ListN.{length}
 use borrow.Author.Tests.{le-ltb}
+use Rattle.std.proofs.Common.{Some}
 use Rattle.slices.specs.Slices.{Bytes}
 use Rattle.slices.proofs.EqualLaws.{equal_self}
 use Rattle.sets.specs.declared.Set.{Set}
-use Rattle.sets.specs.declared.Chosen.TheVariants.{Known}
 use Rattle.sets.specs.Sets.{numbered}
 use Rattle.sets.specs.Lengths.{room_length}
 use Rattle.sets.proofs.Each.{known_set}
 use Rattle.answers.specs.declared.Refusal.{Refusal}
-use Rattle.answers.specs.declared.Refusal.TheVariants.{Fine}
-use Rattle.answers.specs.Answers.{Check, first, answer}
+use Rattle.answers.specs.Answers.{Fine, Check, first, answer}
 use Rattle.answers.proofs.AnswersLaws.{refusing, first-append}
 use Rattle.hashing.specs.Hashing.{h}
 use Rattle.challenge.specs.Blocks.{first_values}
@@ -33,7 +32,7 @@ use Rattle.demands.proofs.HonestRunsProof.{reread}
 both_pass : (xs ys : List Check) → T (refusing xs) → first xs ≡ Fine → first ys ≡ Fine → first (xs ++ ys) ≡ Fine
 both_pass xs ys t e d = first-append xs ys t ∙ rw (e, d)
 
-module _ (p : Set) (g : sign.Given) (known : numbered g.set_number ≡ Known p) (s : Passed p g)
+module _ (p : Set) (g : sign.Given) (known : numbered g.set_number ≡ Some p) (s : Passed p g)
     (limit : ℕ) (room : Bytes) (n : Enough g limit room) where
   abbrev es : Bytes
   es = first_values p (sign.first_block p g) g.limit

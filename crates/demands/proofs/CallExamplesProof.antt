@@ -7,9 +7,9 @@ use Prim.Native.Nat.{ℕ, ◌/◌, ◌^◌, ◌≤◌}
 use native.Mathlib.Omega.{arith}
 use lib.Dec.{T, leb, lit≤}
 use lib.ListN.{length}
+use Rattle.std.proofs.Common.{Option, Some, None}
+use Rattle.sets.specs.declared.Set.{Set}
 use Rattle.slices.specs.Slices.{Bytes}
-use Rattle.sets.specs.declared.Chosen.{Chosen}
-use Rattle.sets.specs.declared.Chosen.TheVariants.{Known, Unknown}
 use Rattle.sets.specs.Sets.{numbered, l1}
 use Rattle.sets.specs.Lengths.{seeds_length}
 use Rattle.answers.specs.declared.Refusal.{Refusal}
@@ -91,24 +91,24 @@ example n back written r v z c =
     }
 
 -- deriving seeds: no table is checked
-seeds_checked : (c : Chosen) (secret public message : Bytes) (n : ℕ) → Checked (length message) (refusal_of (seeded c secret public message n))
+seeds_checked : (c : Option Set) (secret public message : Bytes) (n : ℕ) → Checked (length message) (refusal_of (seeded c secret public message n))
 unfolding seeded with_set seeds_checks first raised
-seeds_checked Unknown secret public message n = no_set (length message)
-seeds_checked (Known p) secret public message n =
+seeds_checked None secret public message n = no_set (length message)
+seeds_checked (Some p) secret public message n =
     rw (unless-refusal (seeds_checks p (length secret) (length public) (length message) n) (derived_seeds p secret message public))
     (behind-keys (length message) false (keys_other p (length secret) (length public)) (when (too_short (seeds_length p) n) Room ∷ []) refl)
 
 -- signing
-sign_checked : (c : Chosen) (g : sign.Given) → Checked (length g.message) (sign.refusal_for c g)
+sign_checked : (c : Option Set) (g : sign.Given) → Checked (length g.message) (sign.refusal_for c g)
 unfolding sign.refusal_for sign.checks sign.length_checks raised
-sign_checked Unknown g = no_set (length g.message)
-sign_checked (Known p) g = behind-keys (length g.message) _ _ _ refl
+sign_checked None g = no_set (length g.message)
+sign_checked (Some p) g = behind-keys (length g.message) _ _ _ refl
 
 -- verifying
-verify_checked : (c : Chosen) (g : verify.Given) → Checked (length g.message) (verify.refusal_for c g)
+verify_checked : (c : Option Set) (g : verify.Given) → Checked (length g.message) (verify.refusal_for c g)
 unfolding verify.refusal_for verify.checks verify.length_checks read_checks verify.verdict_checks raised
-verify_checked Unknown g = no_set (length g.message)
-verify_checked (Known p) g = behind-keys (length g.message) _ _ _ refl
+verify_checked None g = no_set (length g.message)
+verify_checked (Some p) g = behind-keys (length g.message) _ _ _ refl
 
 pub message_examples : MessageExamples
 message_examples =

@@ -10,7 +10,7 @@ use Rattle.sets.specs.declared.Set.{Set}
 use Rattle.sets.specs.Sets.{IsSet, numbered}
 use Rattle.sets.specs.Lengths.{w, seeds_length}
 use Rattle.sets.proofs.Each.{most}
-use Rattle.answers.specs.declared.Refusal.TheVariants.{Fine}
+use Rattle.answers.specs.Answers.{Fine}
 use Rattle.answers.specs.Conditions.{hash_most}
 use Rattle.answers.proofs.AnswersLaws.{none-holds}
 use Rattle.hashing.specs.Hashing.{h, kdf}

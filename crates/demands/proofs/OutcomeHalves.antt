@@ -5,14 +5,12 @@ use mathlib.Core.List.{List}
 use Prim.Native.Nat.{ℕ, ◌^◌, ◌<◌}
 use native.Mathlib.Omega.{arith}
 use lib.ListN.{length}
+use Rattle.std.proofs.Common.{Option, Some, None}
 use Rattle.slices.specs.Slices.{Bytes}
 use Rattle.sets.specs.declared.Set.{Set}
-use Rattle.sets.specs.declared.Chosen.{Chosen}
-use Rattle.sets.specs.declared.Chosen.TheVariants.{Known, Unknown}
 use Rattle.sets.specs.Sets.{IsSet, numbered}
 use Rattle.sets.proofs.Each.{known_set}
-use Rattle.answers.specs.declared.Refusal.TheVariants.{Fine}
-use Rattle.answers.specs.Answers.{fine, Check, first}
+use Rattle.answers.specs.Answers.{Fine, fine, Check, first}
 use Rattle.answers.specs.Outcome.{Outcome, refused, gives, unless, behind, with_set, answer_of, written_by, Promise}
 use Rattle.answers.proofs.AnswersLaws.{fine_is, halves_of}
 use Rattle.demands.specs.Halves.{HalvesOf}
@@ -50,6 +48,6 @@ pub set_small : (k : ℕ) (f : Set → Outcome) → ((p : Set) → IsSet p → S
 unfolding with_set
 set_small k f h = go (numbered k) refl
   where
-    go : (c : Chosen) → numbered k ≡ c → Small (with_set c f)
-    go Unknown e = omega arith
-    go (Known p) e = h p (known_set k p e)
+    go : (c : Option Set) → numbered k ≡ c → Small (with_set c f)
+    go None e = omega arith
+    go (Some p) e = h p (known_set k p e)

@@ -7,15 +7,14 @@ use native.Mathlib.Omega.{arith}
 use lib.ListN.{length, take, drop}
 use lib.Seq.{take_at}
 use borrow.Author.Tests.{le-ltb, eqb-false}
+use Rattle.std.proofs.Common.{Option, Some, None}
 use Rattle.slices.specs.Slices.{Bytes, over}
 use Rattle.sets.specs.declared.Set.{Set}
-use Rattle.sets.specs.declared.Chosen.{Chosen}
-use Rattle.sets.specs.declared.Chosen.TheVariants.{Known, Unknown}
 use Rattle.sets.specs.Sets.{numbered}
 use Rattle.sets.specs.Lengths.{longest, unpacked_length}
 use Rattle.answers.specs.declared.Refusal.{Refusal}
-use Rattle.answers.specs.declared.Refusal.TheVariants.{Fine, Room}
-use Rattle.answers.specs.Answers.{number, fine, Check, when, first, answer}
+use Rattle.answers.specs.declared.Refusal.TheVariants.{Room}
+use Rattle.answers.specs.Answers.{Fine, number, fine, Check, when, first, answer}
 use Rattle.answers.specs.Outcome.{Outcome, refused, gives, unless, behind, with_set, answer_of, left_by, Promise}
 use Rattle.answers.proofs.AnswersLaws.{fine_is}
 use Rattle.answers.proofs.OutcomeLaws.{set_known, unless-given, behind_passes}
@@ -56,20 +55,20 @@ behind_alone true r o before n after f k l = absurd (eqb-false (number r) 0 f (o
 behind_alone false r o before n after f k l = k
 
 -- and there is a set
-pub record Chose (c : Chosen) (f : Set → Outcome) (before : Bytes) (n : ℕ) (after : Bytes) : Type 0 where
+pub record Chose (c : Option Set) (f : Set → Outcome) (before : Bytes) (n : ℕ) (after : Bytes) : Type 0 where
   pub p : Set
-  pub known : c ≡ Known p
+  pub known : c ≡ Some p
   pub promise : Promise (f p) before n after
 
-chose : (c : Chosen) (f : Set → Outcome) (before : Bytes) (n : ℕ) (after : Bytes) → Promise (with_set c f) before n after → n < 2 ^ 32
+chose : (c : Option Set) (f : Set → Outcome) (before : Bytes) (n : ℕ) (after : Bytes) → Promise (with_set c f) before n after → n < 2 ^ 32
     → Chose c f before n after
 unfolding with_set answer_of
-chose Unknown f before n after k l = absurd (omega (arith, k.answered))
-chose (Known p) f before n after k l = record { p = p; known = refl; promise = k }
+chose None f before n after k l = absurd (omega (arith, k.answered))
+chose (Some p) f before n after k l = record { p = p; known = refl; promise = k }
 
 -- ---- the two calls
 
-module _ (c : Chosen) (p : Set) (known : c ≡ Known p) (s : Bytes) (n : ℕ) where
+module _ (c : Option Set) (p : Set) (known : c ≡ Some p) (s : Bytes) (n : ℕ) where
   read-given : (x : Bytes) → unpacked_length p ≤ n → reading p s ≡ gives x → read c s n ≡ gives x
   unfolding read read_into
   read-given x l e = set_known c _ p known ∙ (behind_passes _ Room (reading p s) (le-ltb n (unpacked_length p) l) ∙ e)

@@ -7,16 +7,14 @@ use native.Mathlib.Omega.{arith}
 use lib.ListN.{length, take, drop}
 use lib.Seq.{take_at}
 use borrow.Author.Tests.{not-false}
+use Rattle.std.proofs.Common.{Option, Some, None}
 use Rattle.slices.specs.Slices.{Bytes, over}
 use Rattle.slices.proofs.EqualLaws.{equal-true}
 use Rattle.sets.specs.declared.Set.{Set}
-use Rattle.sets.specs.declared.Chosen.{Chosen}
-use Rattle.sets.specs.declared.Chosen.TheVariants.{Known, Unknown}
 use Rattle.sets.specs.Sets.{numbered}
 use Rattle.sets.specs.Lengths.{w, public_length, seeds_length, room_length, longest}
 use Rattle.answers.specs.declared.Refusal.{Refusal}
-use Rattle.answers.specs.declared.Refusal.TheVariants.{Fine}
-use Rattle.answers.specs.Answers.{number, first, answer}
+use Rattle.answers.specs.Answers.{Fine, number, first, answer}
 use Rattle.answers.specs.Conditions.{other, tables_other, keys_other, message_out, limit_out, too_short}
 use Rattle.answers.proofs.AnswersLaws.{fine_is, none-holds}
 use Rattle.answers.proofs.ConditionsLaws.{neither, same_length}
@@ -54,13 +52,13 @@ passed p g f =
 -- the set is known, and nothing is refused
 pub record Made (g : Given) : Type 0 where
   pub p : Set
-  pub known : numbered g.set_number ≡ Known p
+  pub known : numbered g.set_number ≡ Some p
   pub none : first (checks p g) ≡ Fine
 
-chosen : (g : Given) (c : Chosen) → numbered g.set_number ≡ c → refusal_for c g ≡ Fine → Made g
+chosen : (g : Given) (c : Option Set) → numbered g.set_number ≡ c → refusal_for c g ≡ Fine → Made g
 unfolding refusal_for
-chosen g Unknown e f = absurd (let z : ◌≡◌ {A = ℕ} 1 0 = ap number f in omega arith)
-chosen g (Known p) e f = record { p = p; known = e; none = f }
+chosen g None e f = absurd (let z : ◌≡◌ {A = ℕ} 1 0 = ap number f in omega arith)
+chosen g (Some p) e f = record { p = p; known = e; none = f }
 
 pub made : (g : Given) → refusal g ≡ Fine → Made g
 made g f = chosen g (numbered g.set_number) refl f

@@ -5,11 +5,10 @@ use Prim.Native.Nat.{ℕ, ◌≤◌}
 use native.Mathlib.Omega.{arith}
 use lib.ListN.{length, length-append}
 use borrow.Author.Tests.{ltb-false}
+use Rattle.std.proofs.Common.{Option, Some, None}
 use Rattle.slices.specs.Slices.{Bytes}
 use Rattle.lowmc.proofs.EncryptedLaws.{length-encrypted}
 use Rattle.sets.specs.declared.Set.{Set}
-use Rattle.sets.specs.declared.Chosen.{Chosen}
-use Rattle.sets.specs.declared.Chosen.TheVariants.{Known, Unknown}
 use Rattle.sets.specs.Lengths.{w, public_length, keys_length, layers_length, constants_length}
 use Rattle.sets.specs.Sets.{IsSet}
 use Rattle.answers.specs.declared.Refusal.{Refusal}
@@ -57,16 +56,16 @@ lent p keys layers constants secret block wanted n i h = record {
   constants-length = h.constants-length;
 }
 
-module _ (c : Chosen) (keys layers constants secret block : Bytes) (n : ℕ) where
-  pub encrypt_no_set : c ≡ Unknown → encrypt_outcome c keys layers constants secret block n ≡ refused NoSet
+module _ (c : Option Set) (keys layers constants secret block : Bytes) (n : ℕ) where
+  pub encrypt_no_set : c ≡ None → encrypt_outcome c keys layers constants secret block n ≡ refused NoSet
   unfolding encrypt_outcome
   encrypt_no_set e = set_unknown c _ e
 
-  pub public_no_set : c ≡ Unknown → public_key_outcome c keys layers constants secret block n ≡ refused NoSet
+  pub public_no_set : c ≡ None → public_key_outcome c keys layers constants secret block n ≡ refused NoSet
   unfolding public_key_outcome
   public_no_set e = set_unknown c _ e
 
-  module _ (p : Set) (e : c ≡ Known p) (wanted : ℕ) (r : Refusal)
+  module _ (p : Set) (e : c ≡ Some p) (wanted : ℕ) (r : Refusal)
       (is : r ≡ first (lowmc_checks p (length keys) (length layers) (length constants) (length secret) (length block) wanted n)) where
     pub encrypt-refused : wanted ≡ w p → fine r ≡ false → encrypt_outcome c keys layers constants secret block n ≡ refused r
     unfolding encrypt_outcome

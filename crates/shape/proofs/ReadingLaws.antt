@@ -10,8 +10,8 @@ use Rattle.slices.specs.Slices.{Bytes}
 use Rattle.sets.specs.declared.Set.{Set}
 use Rattle.sets.specs.Lengths.{salt_length, header_length, unpacked_length}
 use Rattle.answers.specs.declared.Refusal.{Refusal}
-use Rattle.answers.specs.declared.Refusal.TheVariants.{Fine, Length, Header, Padding}
-use Rattle.answers.specs.Answers.{fine, Check, when, first}
+use Rattle.answers.specs.declared.Refusal.TheVariants.{Length, Header, Padding}
+use Rattle.answers.specs.Answers.{Fine, fine, Check, when, first}
 use Rattle.answers.specs.Outcome.{Outcome, refused, gives, unless}
 use Rattle.answers.proofs.AnswersLaws.{fine_is}
 use Rattle.answers.proofs.OutcomeLaws.{unless-given}

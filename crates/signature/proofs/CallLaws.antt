@@ -5,15 +5,14 @@ use Prim.Native.Nat.{ℕ, ◌≤◌, ◌<◌}
 use native.Mathlib.Omega.{arith}
 use lib.ListN.{length}
 use borrow.Author.Tests.{lt-ltb, le-ltb}
+use Rattle.std.proofs.Common.{Option, Some, None}
 use Rattle.slices.specs.Slices.{Bytes}
 use Rattle.sets.specs.declared.Set.{Set}
-use Rattle.sets.specs.declared.Chosen.{Chosen}
-use Rattle.sets.specs.declared.Chosen.TheVariants.{Known, Unknown}
 use Rattle.sets.specs.Sets.{IsSet}
 use Rattle.sets.specs.Lengths.{longest, unpacked_length}
 use Rattle.answers.specs.declared.Refusal.{Refusal}
-use Rattle.answers.specs.declared.Refusal.TheVariants.{Fine, NoSet, Room}
-use Rattle.answers.specs.Answers.{fine, first}
+use Rattle.answers.specs.declared.Refusal.TheVariants.{NoSet, Room}
+use Rattle.answers.specs.Answers.{Fine, fine, first}
 use Rattle.answers.specs.Outcome.{refused, gives, Promise}
 use Rattle.answers.proofs.AnswersLaws.{fine_is}
 use Rattle.answers.proofs.OutcomeLaws.{set_unknown, set_known, unless-refused, unless-given, behind-holds, behind_passes}
@@ -55,16 +54,16 @@ module _ (p : Set) (s : Bytes) (n : ℕ) where
 
 -- ---- for the set of a number
 
-module _ (c : Chosen) (s : Bytes) (n : ℕ) where
-  pub read_unknown : c ≡ Unknown → read c s n ≡ refused NoSet
+module _ (c : Option Set) (s : Bytes) (n : ℕ) where
+  pub read_unknown : c ≡ None → read c s n ≡ refused NoSet
   unfolding read
   read_unknown e = set_unknown c _ e
 
-  pub write_unknown : c ≡ Unknown → write c s n ≡ refused NoSet
+  pub write_unknown : c ≡ None → write c s n ≡ refused NoSet
   unfolding write
   write_unknown e = set_unknown c _ e
 
-module _ (c : Chosen) (p : Set) (e : c ≡ Known p) (s : Bytes) (n : ℕ) (out : Bytes) (a : ℕ) (last : Bytes) where
+module _ (c : Option Set) (p : Set) (e : c ≡ Some p) (s : Bytes) (n : ℕ) (out : Bytes) (a : ℕ) (last : Bytes) where
   pub read_known : Promise (read_into p s n) out a last → Promise (read c s n) out a last
   unfolding read
   read_known h = rw (set_known c (λ q. read_into q s n) p e) h

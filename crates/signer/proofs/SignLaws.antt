@@ -6,17 +6,17 @@ use Prim.Native.Nat.{ℕ, ◌-◌, ◌*◌, ◌≤◌}
 use native.Mathlib.Omega.{arith}
 use lib.ListN.{length, take, drop, length-append, length-drop}
 use borrow.Author.Tests.{ltb-false}
+use Rattle.std.proofs.Common.{Some, None}
 use Rattle.slices.specs.Slices.{Bytes, over, cleared, equal, joined}
 use Rattle.slices.proofs.SliceLaws.{length-joined}
 use Rattle.bits.specs.Bits.{Bits}
 use Rattle.bits.specs.Bytes.{bits_of, bytes_of, width}
 use Rattle.sets.specs.declared.Set.{Set}
-use Rattle.sets.specs.declared.Chosen.TheVariants.{Known, Unknown}
 use Rattle.sets.specs.Sets.{IsSet, numbered}
 use Rattle.sets.specs.Lengths.{w, seed_width, public_length, room_length, seeds_length, longest}
 use Rattle.answers.specs.declared.Refusal.{Refusal}
-use Rattle.answers.specs.declared.Refusal.TheVariants.{Fine, NoSet, Pair, Blocks}
-use Rattle.answers.specs.Answers.{Check, when, first, fine, answer}
+use Rattle.answers.specs.declared.Refusal.TheVariants.{NoSet, Pair, Blocks}
+use Rattle.answers.specs.Answers.{Fine, Check, when, first, fine, answer}
 use Rattle.answers.specs.Conditions.{other, too_short}
 use Rattle.answers.proofs.AnswersLaws.{stop, skip, group_stop, group_skip, group_none}
 use Rattle.answers.proofs.ConditionsLaws.{neither, same_length, tables_same, keys_same}
@@ -201,11 +201,11 @@ by_cases true f h = f refl
 by_cases false f h = h refl
 
 module _ (g : Given) (a : ℕ) where
-  pub no_set : numbered g.set_number ≡ Unknown → a ≡ answer NoSet 0 → Signed g a g.room g.output
+  pub no_set : numbered g.set_number ≡ None → a ≡ answer NoSet 0 → Signed g a g.room g.output
   unfolding refusal_for written room_after over
   no_set e q = record { answered = rw e q; left-room = rw e; left-output = rw e }
 
-  module _ {p : Set} (e : numbered g.set_number ≡ Known p) where
+  module _ {p : Set} (e : numbered g.set_number ≡ Some p) where
     -- a check holds that keeps the room
     kept : (r : Refusal) → first (checks p g) ≡ r → fine r ≡ false → clears r ≡ false → a ≡ answer r 0 → Signed g a g.room g.output
     unfolding refusal_for written room_after over

@@ -8,8 +8,8 @@ use Rattle.slices.specs.Slices.{Bytes, part, equal}
 use Rattle.sets.specs.declared.Set.{Set}
 use Rattle.sets.specs.Lengths.{salt_length, header_length}
 use Rattle.answers.specs.declared.Refusal.{Refusal}
-use Rattle.answers.specs.declared.Refusal.TheVariants.{Fine, Blocks, Differs}
-use Rattle.answers.specs.Answers.{first}
+use Rattle.answers.specs.declared.Refusal.TheVariants.{Blocks, Differs}
+use Rattle.answers.specs.Answers.{Fine, first}
 use Rattle.hashing.specs.Hashing.{h}
 use Rattle.challenge.specs.declared.Filled.{Filled}
 use Rattle.challenge.specs.declared.Filled.TheVariants.{Full, Short}

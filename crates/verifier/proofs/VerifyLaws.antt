@@ -5,14 +5,14 @@ use mathlib.Core.List.{List, ◌++◌}
 use Prim.Native.Nat.{ℕ, ◌≤◌}
 use lib.ListN.{length}
 use borrow.Author.Tests.{ltb-false}
+use Rattle.std.proofs.Common.{Some, None}
 use Rattle.slices.specs.Slices.{Bytes, part, cleared, equal}
 use Rattle.sets.specs.declared.Set.{Set}
-use Rattle.sets.specs.declared.Chosen.TheVariants.{Known, Unknown}
 use Rattle.sets.specs.Sets.{IsSet, numbered}
 use Rattle.sets.specs.Lengths.{salt_length, header_length, public_length, room_length}
 use Rattle.answers.specs.declared.Refusal.{Refusal}
-use Rattle.answers.specs.declared.Refusal.TheVariants.{Fine, NoSet, Blocks, Differs}
-use Rattle.answers.specs.Answers.{Check, first, fine, answer}
+use Rattle.answers.specs.declared.Refusal.TheVariants.{NoSet, Blocks, Differs}
+use Rattle.answers.specs.Answers.{Fine, Check, first, fine, answer}
 use Rattle.answers.proofs.AnswersLaws.{group_stop, group_skip, group_none}
 use Rattle.answers.proofs.ConditionsLaws.{same_length, tables_same}
 use Rattle.hashing.specs.Hashing.{h}
@@ -96,11 +96,11 @@ unfolding verdict_checks first
 cleared_by p b limit es v j = ap clears j ∙ clears_verdict (too_few p b limit) (not (equal (first_values p b limit) es))
 
 module _ (g : Given) (a : ℕ) where
-  pub no_set : numbered g.set_number ≡ Unknown → a ≡ answer NoSet 0 → Verified g a g.room
+  pub no_set : numbered g.set_number ≡ None → a ≡ answer NoSet 0 → Verified g a g.room
   unfolding refusal_for room_after
   no_set e q = record { answered = rw e q; left = rw e }
 
-  module _ {p : Set} (e : numbered g.set_number ≡ Known p) where
+  module _ {p : Set} (e : numbered g.set_number ≡ Some p) where
     -- a check holds that keeps the room
     kept : (r : Refusal) → first (checks p g) ≡ r → clears r ≡ false → a ≡ answer r 0 → Verified g a g.room
     unfolding refusal_for room_after

@@ -6,8 +6,8 @@ use lib.ListN.{length}
 use Rattle.bits.specs.Bytes.{width}
 use Rattle.sets.specs.Lengths.{w}
 use Rattle.sets.proofs.Each.{known_set, most}
-use Rattle.answers.specs.declared.Refusal.TheVariants.{Fine, NoSet}
-use Rattle.answers.specs.Answers.{answer}
+use Rattle.answers.specs.declared.Refusal.TheVariants.{NoSet}
+use Rattle.answers.specs.Answers.{Fine, answer}
 use Rattle.answers.proofs.OutcomeLaws.{promise_refused, promise_given}
 use Rattle.lowmc.proofs.EncryptedLaws.{length-encrypted}
 use Rattle.lowmc.proofs.CallsLaws.{passed, lent, encrypt_no_set, encrypt-refused, encrypt-given}

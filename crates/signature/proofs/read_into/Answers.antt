@@ -1,8 +1,8 @@
 -- `signature::read_into` meets its contract.
 use mathlib.Core.Path.{refl, sym, ap, ◌∙◌}
 use native.Mathlib.Omega.{arith}
-use Rattle.answers.specs.declared.Refusal.TheVariants.{Fine, Room}
-use Rattle.answers.specs.Answers.{answer}
+use Rattle.answers.specs.declared.Refusal.TheVariants.{Room}
+use Rattle.answers.specs.Answers.{Fine, answer}
 use Rattle.shape.proofs.RoundTripsProof.{length-form}
 use Rattle.shape.proofs.SetFacts.{unpacked≤}
 use Rattle.answers.proofs.OutcomeLaws.{promise_refused, promise_given}

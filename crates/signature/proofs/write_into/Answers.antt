@@ -1,8 +1,8 @@
 -- `signature::write_into` meets its contract.
 use mathlib.Core.Path.{refl, sym, ap, ◌∙◌}
 use native.Mathlib.Omega.{arith}
-use Rattle.answers.specs.declared.Refusal.TheVariants.{Fine, Room}
-use Rattle.answers.specs.Answers.{answer}
+use Rattle.answers.specs.declared.Refusal.TheVariants.{Room}
+use Rattle.answers.specs.Answers.{Fine, answer}
 use Rattle.answers.proofs.OutcomeLaws.{promise_refused, promise_given}
 use Rattle.signature.proofs.CallLaws.{write-small, write-refused, write_done, write-passed, signature-small}
 use Rattle.signature.proofs.write_into.Goals as goal

@@ -1,10 +1,10 @@
--- `hashing::seeds_refusal` meets its contract.
+-- `hashing::check_seeds` meets its contract.
 use mathlib.Core.Path.{sym, ◌∙◌, subst}
 use Prim.Native.Nat.{ℕ, ◌<◌, ◌≤◌}
 use borrow.Author.Tests.{lt-ltb, le-ltb}
 use Rattle.answers.specs.Answers.{first}
 use Rattle.hashing.specs.SeedsCall.{seeds_checks}
-use Rattle.hashing.proofs.seeds_refusal.Goals as goal
+use Rattle.hashing.proofs.check_seeds.Goals as goal
 
 pub returns-then-keys_other : goal.returns-then-keys_other
 unfolding seeds_checks first
