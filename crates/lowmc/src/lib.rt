@@ -7,7 +7,7 @@ ghost use Rattle.bits.specs.Bytes.{bits_of, odd, digit};
 ghost use Rattle.bits.specs.Words.{word_bits, block_bits, Holds};
 ghost use Rattle.bits.specs.Inner.{low_bits};
 ghost use Rattle.sets.specs.Sets.{IsSet};
-ghost use Rattle.answers.specs.Answers.{first};
+ghost use Rattle.answers.specs.Answers.{first, back};
 ghost use Rattle.sets.specs.Lengths.{w};
 ghost use Rattle.circuit.specs.Matrices.{row_parity, product};
 ghost use Rattle.circuit.specs.Lowmc.{sboxes};
@@ -20,7 +20,7 @@ mod tables;
 
 use answers::Refusal;
 use bits::Block;
-use sets::{Chosen, Set};
+use sets::Set;
 pub use tables::Tables;
 
 // The ones in word k of row AND v. Words of v have their first byte lowest, as words of the row have when they are loaded: the
@@ -324,7 +324,7 @@ fn xor_both(x: Pair, y: Pair) -> Pair
 }
 
 // What the calls over LowMC refuse, by the lengths of their slices.
-fn refusal(
+fn check(
     p: Set,
     keys: usize,
     layers: usize,
@@ -333,20 +333,20 @@ fn refusal(
     block: usize,
     wanted: usize,
     output: usize,
-) -> Refusal
+) -> Result<(), Refusal>
     requires { IsSet p }
     ensures { result ≡ first (lowmc_checks p keys layers constants secret block wanted output) }
 {
     if answers::tables_other(p, keys, layers, constants) {
-        return Refusal::Table;
+        return Err(Refusal::Table);
     }
     if answers::blocks_other(p, secret, block) {
-        return Refusal::Key;
+        return Err(Refusal::Key);
     }
     if output < wanted {
-        return Refusal::Room;
+        return Err(Refusal::Room);
     }
-    Refusal::Fine
+    Ok(())
 }
 
 // The call that encrypts a block.
@@ -358,15 +358,12 @@ pub fn encrypt_call(
     secret: &[u8],
     block: &[u8],
     output: &mut [u8],
-) -> u64
-    ensures { EncryptPromise set keys.now layers.now constants.now secret.now block.now output.old result output.new }
+) -> Result<u32, Refusal>
+    ensures { EncryptPromise set keys.now layers.now constants.now secret.now block.now output.old (back result) output.new }
 {
-    let chosen = Set::numbered(set);
-    let Chosen::Known(p) = chosen else {
-        return Refusal::NoSet.answer(0);
-    };
+    let p = Set::numbered(set).ok_or(Refusal::NoSet)?;
     let n = p.width();
-    let why = refusal(
+    check(
         p,
         keys.len(),
         layers.len(),
@@ -375,10 +372,7 @@ pub fn encrypt_call(
         block.len(),
         n,
         output.len(),
-    );
-    if !why.fine() {
-        return why.answer(0);
-    }
+    )?;
     let tables = Tables {
         set: p,
         keys,
@@ -386,7 +380,7 @@ pub fn encrypt_call(
         constants,
     };
     tables.encrypt(secret, block, output);
-    Refusal::Fine.answer(n as u32)
+    Ok(n as u32)
 }
 
 // The call that forms a public key.
@@ -398,15 +392,12 @@ pub fn public_key_call(
     secret: &[u8],
     block: &[u8],
     output: &mut [u8],
-) -> u64
-    ensures { PublicKeyPromise set keys.now layers.now constants.now secret.now block.now output.old result output.new }
+) -> Result<u32, Refusal>
+    ensures { PublicKeyPromise set keys.now layers.now constants.now secret.now block.now output.old (back result) output.new }
 {
-    let chosen = Set::numbered(set);
-    let Chosen::Known(p) = chosen else {
-        return Refusal::NoSet.answer(0);
-    };
+    let p = Set::numbered(set).ok_or(Refusal::NoSet)?;
     let n = p.public_length();
-    let why = refusal(
+    check(
         p,
         keys.len(),
         layers.len(),
@@ -415,10 +406,7 @@ pub fn public_key_call(
         block.len(),
         n,
         output.len(),
-    );
-    if !why.fine() {
-        return why.answer(0);
-    }
+    )?;
     let tables = Tables {
         set: p,
         keys,
@@ -426,5 +414,5 @@ pub fn public_key_call(
         constants,
     };
     tables.public_key(secret, block, output);
-    Refusal::Fine.answer(n as u32)
+    Ok(n as u32)
 }

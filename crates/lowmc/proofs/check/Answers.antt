@@ -1,9 +1,9 @@
--- `lowmc::refusal` meets its contract.
+-- `lowmc::check` meets its contract.
 use mathlib.Core.Path.{sym, ◌∙◌}
 use borrow.Author.Tests.{lt-ltb, le-ltb}
 use Rattle.answers.specs.Answers.{first}
 use Rattle.lowmc.specs.Calls.{lowmc_checks}
-use Rattle.lowmc.proofs.refusal.Goals as goal
+use Rattle.lowmc.proofs.check.Goals as goal
 
 pub returns-then-tables_other : goal.returns-then-tables_other
 unfolding lowmc_checks first
