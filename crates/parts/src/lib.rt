@@ -151,23 +151,23 @@ fn padding_wrong(p: Set, s: &[u8]) -> bool
 }
 
 // The first check of reading that holds.
-pub fn check(p: Set, s: &[u8]) -> Refusal
+pub fn check(p: Set, s: &[u8]) -> Result<(), Refusal>
     requires { IsSet p }
     ensures { result ≡ first (read_checks p s.now) }
 {
     if s.len() < p.header() + Set::SALT {
-        return Refusal::Length;
+        return Err(Refusal::Length);
     }
     if header_wrong(p, s) {
-        return Refusal::Header;
+        return Err(Refusal::Header);
     }
     if s.len() != full_length(p, s) {
-        return Refusal::Length;
+        return Err(Refusal::Length);
     }
     if padding_wrong(p, s) {
-        return Refusal::Padding;
+        return Err(Refusal::Padding);
     }
-    Refusal::Fine
+    Ok(())
 }
 
 // Where the parts of a round of value e stand, if it starts at a place.

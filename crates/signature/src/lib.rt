@@ -5,7 +5,7 @@ ghost use Rattle.std.specs.Prelude.{◌≡◌, ◌+◌, ◌≤◌, length, drop}
 ghost use Rattle.slices.specs.Slices.{part, put, over};
 ghost use Rattle.sets.specs.Sets.{IsSet};
 ghost use Rattle.sets.specs.Lengths.{salt_length, header_length, round_most, longest, unpacked_length};
-ghost use Rattle.answers.specs.Answers.{first};
+ghost use Rattle.answers.specs.Answers.{Fine, first, back};
 ghost use Rattle.answers.specs.Outcome.{Promise};
 ghost use Rattle.shape.specs.Fields.{sizes, unpack, pack, all, is_zero, clean_slots};
 ghost use Rattle.shape.specs.Header.{values};
@@ -14,7 +14,7 @@ ghost use Rattle.shape.specs.Form.{form, values_in, signature};
 ghost use Rattle.shape.specs.Reading.{value_wrong, slot_wrong, write_checks, read_into, write_into, ReadPromise, WritePromise};
 
 use answers::Refusal;
-use sets::{Chosen, Set};
+use sets::Set;
 
 // The values of a header, one a byte, at the start of an output.
 fn put_values(p: Set, s: &[u8], output: &mut [u8])
@@ -141,20 +141,20 @@ fn slot_wrong(p: Set, x: &[u8]) -> bool
 }
 
 // The first check of writing that holds.
-pub fn check_form(p: Set, x: &[u8]) -> Refusal
+pub fn check_form(p: Set, x: &[u8]) -> Result<(), Refusal>
     requires { IsSet p }
     ensures { result ≡ first (write_checks p x.now) }
 {
     if x.len() != p.unpacked_length() {
-        return Refusal::Length;
+        return Err(Refusal::Length);
     }
     if value_wrong(p, x) {
-        return Refusal::Header;
+        return Err(Refusal::Header);
     }
     if slot_wrong(p, x) {
-        return Refusal::Padding;
+        return Err(Refusal::Padding);
     }
-    Refusal::Fine
+    Ok(())
 }
 
 // Every round from its slot to its place in a signature, and where the last one ends.
@@ -182,7 +182,7 @@ fn put_rounds(p: Set, x: &[u8], output: &mut [u8]) -> usize
 
 // The signature of an unpacked form that passed its checks, at the start of an output; its length.
 pub fn pack(p: Set, x: &[u8], output: &mut [u8]) -> usize
-    requires { IsSet p × ((first (write_checks p x.now) ≡ Refusal.Fine) × (longest p ≤ length output.old)) }
+    requires { IsSet p × ((first (write_checks p x.now) ≡ Fine) × (longest p ≤ length output.old)) }
     ensures { (result ≡ length (signature p x.now)) × (output.new ≡ over (signature p x.now) output.old) }
 {
     let t = p.t;
@@ -193,56 +193,43 @@ pub fn pack(p: Set, x: &[u8], output: &mut [u8]) -> usize
 }
 
 // Reading for a set that is known.
-fn read_into(p: Set, s: &[u8], output: &mut [u8]) -> u64
+fn read_into(p: Set, s: &[u8], output: &mut [u8]) -> Result<u32, Refusal>
     requires { IsSet p }
-    ensures { Promise (read_into p s.now (length output.old)) output.old result output.new }
+    ensures { Promise (read_into p s.now (length output.old)) output.old (back result) output.new }
 {
     let n = p.unpacked_length();
     if output.len() < n {
-        return Refusal::Room.answer(0);
+        return Err(Refusal::Room);
     }
-    let r = parts::check(p, s);
-    if r.fine() {
-        unpack(p, s, output);
-        return Refusal::Fine.answer(n as u32);
-    }
-    r.answer(0)
+    parts::check(p, s)?;
+    unpack(p, s, output);
+    Ok(n as u32)
 }
 
 // Writing for a set that is known.
-fn write_into(p: Set, x: &[u8], output: &mut [u8]) -> u64
+fn write_into(p: Set, x: &[u8], output: &mut [u8]) -> Result<u32, Refusal>
     requires { IsSet p }
-    ensures { Promise (write_into p x.now (length output.old)) output.old result output.new }
+    ensures { Promise (write_into p x.now (length output.old)) output.old (back result) output.new }
 {
     if output.len() < p.longest() {
-        return Refusal::Room.answer(0);
+        return Err(Refusal::Room);
     }
-    let r = check_form(p, x);
-    if r.fine() {
-        let n = pack(p, x, output);
-        return Refusal::Fine.answer(n as u32);
-    }
-    r.answer(0)
+    check_form(p, x)?;
+    Ok(pack(p, x, output) as u32)
 }
 
 // A signature into its unpacked form: what the exported call does.
-pub fn read(set: u64, s: &[u8], output: &mut [u8]) -> u64
-    ensures { ReadPromise set s.now output.old result output.new }
+pub fn read(set: u64, s: &[u8], output: &mut [u8]) -> Result<u32, Refusal>
+    ensures { ReadPromise set s.now output.old (back result) output.new }
 {
-    let chosen = Set::numbered(set);
-    let Chosen::Known(p) = chosen else {
-        return Refusal::NoSet.answer(0);
-    };
+    let p = Set::numbered(set).ok_or(Refusal::NoSet)?;
     read_into(p, s, output)
 }
 
 // An unpacked form into its signature: what the exported call does.
-pub fn write(set: u64, x: &[u8], output: &mut [u8]) -> u64
-    ensures { WritePromise set x.now output.old result output.new }
+pub fn write(set: u64, x: &[u8], output: &mut [u8]) -> Result<u32, Refusal>
+    ensures { WritePromise set x.now output.old (back result) output.new }
 {
-    let chosen = Set::numbered(set);
-    let Chosen::Known(p) = chosen else {
-        return Refusal::NoSet.answer(0);
-    };
+    let p = Set::numbered(set).ok_or(Refusal::NoSet)?;
     write_into(p, x, output)
 }

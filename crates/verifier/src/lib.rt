@@ -315,7 +315,7 @@ fn fill_at(
     room: &mut [u8],
 )
     requires { Lent p keys.now layers.now constants.now × (length public.now ≡ public_length p) × (t < p.t)
-        × (first (read_checks p signature.now) ≡ Refusal.Fine) × Located p signature.now t here × (room_length p ≤ length room.old) }
+        × (first (read_checks p signature.now) ≡ Fine) × Located p signature.now t here × (room_length p ≤ length room.old) }
     ensures { room.new
         ≡ with_round p t
         (three (opened_outputs p (cipher_of p keys.now layers.now constants.now) public.now (form p signature.now) t))
@@ -360,7 +360,7 @@ fn fill(
     room: &mut [u8],
 )
     requires { Lent p keys.now layers.now constants.now × (length public.now ≡ public_length p)
-        × (first (read_checks p signature.now) ≡ Refusal.Fine) × (room_length p ≤ length room.old) }
+        × (first (read_checks p signature.now) ≡ Fine) × (room_length p ≤ length room.old) }
     ensures { (room.new
         ≡ over
         (verifier_filling p (cipher_of p keys.now layers.now constants.now) public.now (form p signature.now))
@@ -478,7 +478,7 @@ fn verify_read(
     signature: &[u8],
 ) -> Refusal
     requires { Lent p keys.now layers.now constants.now × (length public.now ≡ public_length p)
-        × (first (read_checks p signature.now) ≡ Refusal.Fine) × (room_length p ≤ length room.old) }
+        × (first (read_checks p signature.now) ≡ Fine) × (room_length p ≤ length room.old) }
     ensures { (result
         ≡ first
         (verdict_checks p
