@@ -176,7 +176,6 @@ pub fn recompute(
     ensures { (j : Party) → e ≡ party_number j → RecomputedAs (cipher_of p keys.now layers.now constants.now) (block_bits plain) j
         (opening_on_words share1 share2 tape1 tape2 given) result }
 {
-    let r = p.r;
     let in1 = e == 0;
     let in2 = e == 2;
     let shares = Pair {
@@ -185,15 +184,13 @@ pub fn recompute(
     };
     let mut s = start_shares(p, keys, layers, constants, shares, in1, in2, plain);
     let mut words = [0u64; 40];
-    let mut i = 0;
-    while i < r {
+    for i in 0..p.r {
         let x = s.a;
         let y = s.b;
         let g = gate_row(p, x, y, tape1.words[i], tape2.words[i]);
         words[i] = g;
         let h = given.words[i];
         s = advance_shares(p, keys, layers, constants, i, shares, in1, in2, s, g, h);
-        i += 1;
     }
     let first = s.a;
     let second = s.b;
@@ -241,14 +238,11 @@ pub fn all_states(
     requires { Lent p keys.now layers.now constants.now × (length states.old ≡ 160) }
     ensures { Traced (cipher_of p keys.now layers.now constants.now) (block_bits key) (block_bits block) states.new }
 {
-    let r = p.r;
     let mut x = lowmc::start(p, keys, key, block);
     put_state(states, 0, x);
-    let mut i = 0;
-    while i < r {
+    for i in 0..p.r {
         x = lowmc::step(p, keys, layers, constants, i, key, x);
-        i += 1;
-        put_state(states, i, x);
+        put_state(states, i + 1, x);
     }
 }
 
@@ -360,20 +354,17 @@ pub fn simulate(
     ensures { Simulated (cipher_of p keys.now layers.now constants.now) (block_bits plain) (share_in x)
         (tapes_of (cipher_of p keys.now layers.now constants.now) t0.now t1.now t2.now) result }
 {
-    let r = p.r;
     let mut s = begin(p, keys, layers, constants, x, plain, state_at(states, 0));
     let mut a = [0u64; 40];
     let mut b = [0u64; 40];
     let mut c = [0u64; 40];
-    let mut i = 0;
-    while i < r {
+    for i in 0..p.r {
         let g = gate_rows(p, s, rows_at(p, t0, t1, t2, i));
         a[i] = g.a;
         b[i] = g.b;
         c[i] = g.c;
         let whole = state_at(states, i + 1);
         s = step(p, keys, layers, constants, i, x, s, g, whole);
-        i += 1;
     }
     View {
         out: s,
