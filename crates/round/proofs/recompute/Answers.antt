@@ -13,7 +13,7 @@ pub loop-i-init : goal.loop-i-init
 loop-i-init c =
     let s = c.start_shares-s.ensures in
     record {
-      rounds = most (λ (q : Set). q.r) 38 tt tt tt c.requires.is_set;
+      rounds = most (λ (q : Set). q.r) 38 tt tt tt c.args.tables.now.lent.is_set;
       size = refl;
       followed = λ j h. followed_none _ _ j (opening_on_words c.args.share1 c.args.share2 _ _ _) _ _ (goes c.args.e j h) 40 _ _ s.0 s.1;
     }
@@ -32,5 +32,5 @@ loop-i-preserved c =
 pub returns : goal.returns
 returns c =
     let l = c.loop-i in
-    let e : l.i ≡ c.args.p.r = omega (arith, l.auto.i-end) in
+    let e : l.i ≡ c.args.tables.now.set.r = omega (arith, l.auto.i-end) in
     λ j h. followed_all _ _ j _ l.i e _ (l.invariant.followed j h)

@@ -5,17 +5,17 @@ use lib.ListN.{length}
 use Rattle.bits.specs.Words.{block_bits}
 use Rattle.circuit.specs.Round.{Party}
 use Rattle.circuit.specs.Tapes.{party_number}
-use Rattle.lowmc.specs.Lent.{cipher_of}
+use Rattle.lowmc.specs.Cipher.{cipher}
 use Rattle.round.specs.Engine.{opening_on_words}
 use Rattle.round.proofs.VerifierLaws.{Followed}
 use Rattle.round.proofs.recompute.Given as goal
 
 abbrev pub invariant-loop-i : goal.invariant-loop-i
 invariant-loop-i l = record {
-  rounds : l.p.r ≤ 38;
+  rounds : l.tables.set.r ≤ 38;
   size : length l.words ≡ 40;
   followed : (j : Party)
       → l.fn.e ≡ party_number j
-      → Followed (cipher_of l.p l.keys l.layers l.constants) (block_bits l.fn.plain) j
+      → Followed (cipher l.tables) (block_bits l.fn.plain) j
       (opening_on_words l.fn.share1 l.fn.share2 l.tape1 l.tape2 l.given) l.i (block_bits l.s.a) (block_bits l.s.b) l.words;
 }

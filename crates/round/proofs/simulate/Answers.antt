@@ -11,16 +11,16 @@ use Rattle.round.proofs.simulate.Goals as goal
 pub loop-i-init : goal.loop-i-init
 loop-i-init c =
     record {
-      rounds = most (λ (q : Set). q.r) 38 tt tt tt c.requires.0.is_set;
+      rounds = most (λ (q : Set). q.r) 38 tt tt tt c.args.tables.now.lent.is_set;
       size0 = refl;
       size1 = refl;
       size2 = refl;
-      done = done_none _ _ _ _ 40 _ _ (c.state_at.ensures ∙ c.requires.1 0 (omega arith)) c.begin-s.ensures;
+      done = done_none _ _ _ _ 40 _ _ (c.state_at.ensures ∙ c.requires.0 0 (omega arith)) c.begin-s.ensures;
     }
 
 pub loop-i-preserved : goal.loop-i-preserved
 loop-i-preserved c =
-    let a = c.args in
+    let t = c.args.tables.now in
     let l = c.loop-i in
     let v = l.invariant in
     record {
@@ -31,12 +31,12 @@ loop-i-preserved c =
       done =
           done_more _ _ _ _ l.i _ _ _ _ _ l.a l.b l.c c.loop-i-test.true
           (omega (arith, v.rounds, v.size0)) (omega (arith, v.rounds, v.size1)) (omega (arith, v.rounds, v.size2))
-          (c.rows_at.ensures a.keys.now a.layers.now a.constants.now) c.gate_rows-g.ensures
-          (c.state_at-whole.ensures ∙ c.requires.1 (l.i + 1) (omega arith)) c.step-s.ensures v.done;
+          (c.rows_at.ensures t.keys.now t.layers.now t.constants.now) c.gate_rows-g.ensures
+          (c.state_at-whole.ensures ∙ c.requires.0 (l.i + 1) (omega arith)) c.step-s.ensures v.done;
     }
 
 pub returns : goal.returns
 returns c =
     let l = c.loop-i in
-    let e : l.i ≡ c.args.p.r = omega (arith, l.auto.i-end) in
+    let e : l.i ≡ c.args.tables.now.set.r = omega (arith, l.auto.i-end) in
     done_all _ _ _ _ l.i e _ l.invariant.done

@@ -3,7 +3,7 @@ use mathlib.Core.Path.{◌≡◌}
 use Prim.Native.Nat.{◌≤◌}
 use lib.ListN.{length}
 use Rattle.bits.specs.Words.{block_bits}
-use Rattle.lowmc.specs.Lent.{cipher_of}
+use Rattle.lowmc.specs.Cipher.{cipher}
 use Rattle.round.specs.Engine.{share_in}
 use Rattle.round.specs.Inputs.{tapes_of}
 use Rattle.round.proofs.SignerLaws.{Done}
@@ -11,10 +11,10 @@ use Rattle.round.proofs.simulate.Given as goal
 
 abbrev pub invariant-loop-i : goal.invariant-loop-i
 invariant-loop-i l = record {
-  rounds : l.p.r ≤ 38;
+  rounds : l.tables.set.r ≤ 38;
   size0 : length l.a ≡ 40;
   size1 : length l.b ≡ 40;
   size2 : length l.c ≡ 40;
-  done : Done (cipher_of l.p l.keys l.layers l.constants) (block_bits l.fn.plain) (share_in l.x)
-      (tapes_of (cipher_of l.p l.keys l.layers l.constants) l.t0 l.t1 l.t2) l.i (share_in l.s) l.a l.b l.c;
+  done : Done (cipher l.tables) (block_bits l.fn.plain) (share_in l.x)
+      (tapes_of (cipher l.tables) l.t0 l.t1 l.t2) l.i (share_in l.s) l.a l.b l.c;
 }
