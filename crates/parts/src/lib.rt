@@ -64,15 +64,7 @@ fn all_values(p: Set, s: &[u8]) -> bool
     requires { IsSet p × (header_length p ≤ length s.now) }
     ensures { result ≡ all is_value (values p s.now) }
 {
-    let t = p.t;
-    let mut k = 0;
-    while k < t {
-        if 3 <= value(s, k) {
-            return false;
-        }
-        k += 1;
-    }
-    true
+    (0..p.t).all(|k| value(s, k) < 3)
 }
 
 // The bits behind the first m of a field that starts at a place, to the byte, are zero.
