@@ -1,15 +1,14 @@
 -- Laws of writing a signature's parts: a header byte by byte, and a round's parts one behind the other.
 use mathlib.Core.Path.{◌≡◌, sym, ap, ◌∙◌}
-use mathlib.Core.List.{List, ◌++◌, append_assoc}
-use Prim.Native.Nat.{ℕ, ◌+◌, ◌*◌, ◌≤◌, ◌<◌}
+use mathlib.Core.List.{List, [], ◌∷◌, ◌++◌, append_assoc}
+use Prim.Native.Nat.{ℕ, ◌+◌, ◌*◌, ◌≤◌}
 use native.Mathlib.Omega.{arith}
-use lib.ListN.{length, set, length-append}
+use lib.ListN.{length, length-append}
 use lib.Seq.{take_at, take_all}
-use Rattle.slices.specs.Slices.{Bytes, put, over}
-use Rattle.slices.proofs.SliceLaws.{put-start, put-put, length-put}
-use Rattle.bits.specs.Bits.{Bits, from}
+use Rattle.slices.specs.Slices.{Bytes, put, joined}
+use Rattle.slices.proofs.SliceLaws.{put-put}
+use Rattle.bits.specs.Bits.{Bits, from, up_to}
 use Rattle.bits.specs.Bytes.{value, bytes, bytes_of}
-use Rattle.bits.proofs.BytesLaws.{length-bytes, put_byte, put_no_bytes}
 use Rattle.sets.specs.declared.Set.{Set}
 use Rattle.sets.specs.Lengths.{header_length, round_least, round_most}
 use Rattle.shape.specs.Fields.{sizes}
@@ -24,34 +23,12 @@ use Rattle.parts.specs.Places.{showing}
 
 -- ---- the header
 
--- the first i bytes of the header of values are written
-pub record Headed (vs : List ℕ) (out₀ : Bytes) (i : ℕ) (out : Bytes) : Type 0 where
-  pub is : out ≡ put out₀ 0 (bytes i (pair_bits vs))
-  pub far : i ≤ length out₀
-
-pub headed_none : (vs : List ℕ) (out₀ : Bytes) → Headed vs out₀ 0 out₀
-headed_none vs out₀ = record { is = put_no_bytes out₀ 0 _; far = omega arith }
-
-module _ {vs : List ℕ} {out₀ : Bytes} {i : ℕ} {out : Bytes} (h : Headed vs out₀ i out) where
-  pub headed_length : length out ≡ length out₀
-  headed_length =
-      let l : length (bytes i (pair_bits vs)) ≡ i = length-bytes i (pair_bits vs) in
-      ap length h.is ∙ length-put out₀ 0 (bytes i (pair_bits vs)) (omega (arith, h.far))
-
-  pub headed_more : i < length out₀ → (b : ℕ) → b ≡ value 8 (from (8 * i) (pair_bits vs)) → Headed vs out₀ (i + 1) (set out i b)
-  headed_more l b g =
-      record {
-        is =
-            rw h.is
-            (ap (λ (n : ℕ). set (put out₀ 0 (bytes i (pair_bits vs))) n b) (omega arith)
-            ∙ put_byte out₀ 0 i b (pair_bits vs) (omega arith) g);
-        far = omega arith;
-      }
-
-  pub headed_all : (p : Set) → length vs ≡ p.t → i ≡ header_length p → out ≡ over (header_of p vs) out₀
-  unfolding header_of bytes_of
-  headed_all p e g =
-      h.is ∙ ap (λ (f : Bits). put out₀ 0 (bytes i f)) (sym (pairs_end vs)) ∙ (rw (g, e) (put-start out₀ _))
+-- its bytes, one by one
+pub header_by_bytes : (p : Set) (vs : List ℕ) → length vs ≡ p.t → joined (header_length p) (λ q. value 8 (from (8 * q) (pair_bits vs)) ∷ []) ≡ header_of p vs
+unfolding header_of bytes_of bytes
+header_by_bytes p vs e =
+    ap (λ (f : Bits). joined (header_length p) (λ q. value 8 (from (8 * q) f) ∷ []))
+    (sym (pairs_end vs) ∙ ap (λ (n : ℕ). up_to (2 * n) (pair_bits vs)) e)
 
 -- ---- a round
 

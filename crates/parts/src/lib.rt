@@ -105,12 +105,9 @@ fn full_length(p: Set, s: &[u8]) -> usize
     requires { IsSet p × (header_length p ≤ length s.now) }
     ensures { result ≡ signature_length p (values p s.now) }
 {
-    let t = p.t;
     let mut at = p.header() + Set::SALT;
-    let mut k = 0;
-    while k < t {
+    for k in 0..p.t {
         at += round_length(p, value(s, k));
-        k += 1;
     }
     at
 }
@@ -128,16 +125,13 @@ fn padding_wrong(p: Set, s: &[u8]) -> bool
     requires { IsSet p × (length s.now ≡ signature_length p (values p s.now)) }
     ensures { result ≡ padding_wrong p s.now }
 {
-    let t = p.t;
     let m = gates(p);
     let mut at = p.header() + Set::SALT;
-    let mut k = 0;
-    while k < t {
+    for k in 0..p.t {
         if !padded(s, at + p.digest, m) {
             return true;
         }
         at += round_length(p, value(s, k));
-        k += 1;
     }
     false
 }
@@ -236,10 +230,8 @@ pub fn put_header(p: Set, values: &[u8], output: &mut [u8])
     ensures { output.new ≡ over (header_of p values.now) output.old }
 {
     let n = p.header();
-    let mut i = 0;
-    while i < n {
-        output[i] = header_byte(values, i);
-        i += 1;
+    for (i, byte) in output[..n].iter_mut().enumerate() {
+        *byte = header_byte(values, i);
     }
 }
 
