@@ -2,21 +2,19 @@
 use mathlib.Core.Path.{◌≡◌, refl, sym, ap, ap₂, ◌∙◌, subst}
 use mathlib.Core.Bool.{Bool, true, false}
 use mathlib.Core.List.{[], ◌∷◌, ◌++◌}
-use Prim.Native.Nat.{ℕ, zero, suc, ◌+◌, ◌-◌, ◌<◌, ◌≤◌}
+use Prim.Native.Nat.{ℕ, zero, suc, ◌+◌, ◌<◌, ◌≤◌}
 use native.Mathlib.Omega.{arith}
 use native.Mathlib.Nat.{zero-add, suc-add, add-zero}
 use lib.Dec.{eqb}
-use lib.ListN.{length, take}
-use lib.Seq.{take-add, take-length}
+use lib.ListN.{length}
 use borrow.Author.Tests.{eq-eqb, ne_eqb, eqb-true, eqb-false}
 use Rattle.keccak.specs.Lanes.{Lanes, permuted}
 use Rattle.keccak.proofs.LanesLaws.{length-permuted}
-use Rattle.slices.specs.Slices.{Bytes, part, put}
-use Rattle.slices.proofs.SliceLaws.{put-none, put-put, put-start, over-whole}
+use Rattle.slices.specs.Slices.{Bytes, put, over}
+use Rattle.slices.proofs.SliceLaws.{over_none, over-put, over-whole}
 use Rattle.shake.specs.declared.Sponge.{Sponge}
 use Rattle.shake.specs.Shake.{byte_at, bytes_at, byte_added, added}
 use Rattle.shake.specs.Sponge.{sponge, absorbed_byte, absorbed, ready, passed, given, squeezed, Taking, Giving, AbsorbsInPieces, SqueezesInPieces}
-use Rattle.shake.proofs.PartLaws.{length_part}
 use Rattle.shake.proofs.StateLaws.{length-byte_added}
 
 -- ---- pieces
@@ -97,30 +95,13 @@ absorbed_full r a j (b ∷ (d ∷ p)) h e =
     ap (λ (s : Sponge). absorbed s (d ∷ p)) (absorbed-next r a j b (λ q. omega arith))
     ∙ absorbed_full r (byte_added a j b) (j + 1) (d ∷ p) (omega arith) (omega arith)
 
--- s has taken in i bytes of m: the part that fills the block
-pub absorbed_block : (s : Sponge) (m : Bytes) (r : ℕ) (a : Lanes) (j i : ℕ) (b d : Lanes) → sponge r a j ≡ absorbed s (take i m) → j < r
-    → i + (r - j) ≤ length m → b ≡ added a j (part m i (r - j)) → d ≡ permuted b → sponge r d 0 ≡ absorbed s (take (i + (r - j)) m)
-absorbed_block s m r a j i b d e h l p q =
-    let n = r - j in
-    ap (λ (x : Lanes). sponge r x 0) (q ∙ ap permuted p)
-    ∙ sym (absorbed_full r a j (part m i n) h (omega (arith, length_part m i n l)))
-    ∙ ap (λ (t : Sponge). absorbed t (part m i n)) e
-    ∙ absorbed-append s (take i m) (part m i n)
-    ∙ ap (absorbed s) (sym (take-add i n m))
-
--- and the rest, which leaves room
-pub absorbed_rest : (s : Sponge) (m : Bytes) (r : ℕ) (a : Lanes) (j i : ℕ) (b : Lanes) → sponge r a j ≡ absorbed s (take i m) → i ≤ length m
-    → j + (length m - i) < r → b ≡ added a j (part m i (length m - i)) → sponge r b (j + (length m - i)) ≡ absorbed s m
-absorbed_rest s m r a j i b e l h p =
-    let n = length m - i in
-    let lp = length_part m i n (omega arith) in
-    let z : i + n ≡ length m = omega arith in
-    ap (λ (x : Lanes). sponge r x (j + n)) p
-    ∙ ap (λ (k : ℕ). sponge r (added a j (part m i n)) (j + k)) (sym lp)
-    ∙ sym (absorbed-room r a j (part m i n) (omega (arith, lp)))
-    ∙ ap (λ (t : Sponge). absorbed t (part m i n)) e
-    ∙ absorbed-append s (take i m) (part m i n)
-    ∙ ap (absorbed s) (sym (take-add i n m) ∙ ap (λ (k : ℕ). take k m) z ∙ take-length m)
+-- what is to be taken in, the bytes p that fill the block first
+pub absorbed_block : (r : ℕ) (a b d : Lanes) (j : ℕ) (p q : Bytes) → j < r → j + length p ≡ r → b ≡ added a j p → d ≡ permuted b
+    → absorbed (sponge r d 0) q ≡ absorbed (sponge r a j) (p ++ q)
+absorbed_block r a b d j p q h l e f =
+    ap (λ (x : Lanes). absorbed (sponge r x 0) q) (f ∙ ap permuted e)
+    ∙ ap (λ (t : Sponge). absorbed t q) (sym (absorbed_full r a j p h l))
+    ∙ absorbed-append (sponge r a j) p q
 
 -- ---- giving, within a block
 
@@ -188,22 +169,21 @@ squeezed_block s r a b j k i n e f hr hn h = (
 
 -- ---- bytes given into a slice
 
-pub put-given-none : (s : Sponge) (o : Bytes) → o ≡ put o 0 (given s 0)
+pub over-given-none : (s : Sponge) (o : Bytes) → o ≡ over (given s 0) o
 unfolding given
-put-given-none s o = sym (put-none o 0)
+over-given-none s o = over_none o
 
 -- n more behind the first i
-pub put-given : (s : Sponge) (o t : Bytes) (i n : ℕ) (p u : Bytes) → i + n ≤ length o → t ≡ put o 0 (given s i) → length p ≡ n
-    → given s i ++ p ≡ given s (i + n) → u ≡ put t i p → u ≡ put o 0 (given s (i + n))
-put-given s o t i n p u h e l g f =
+pub over-given : (s : Sponge) (o t : Bytes) (i n : ℕ) (p q : Bytes) → i + n ≤ length o → t ≡ over (given s i) o → length q ≡ n → p ≡ q
+    → given s i ++ q ≡ given s (i + n) → put t i p ≡ over (given s (i + n)) o
+over-given s o t i n p q h e l f g =
     let li = length-given s i in
-    let z : i ≡ 0 + length (given s i) = omega (arith, li) in
-    f ∙ ap (λ (x : Bytes). put x i p) e ∙ ap (λ (k : ℕ). put (put o 0 (given s i)) k p) z
-    ∙ put-put o 0 (given s i) p (omega (arith, li)) ∙ ap (put o 0) g
+    ap₂ (λ (x y : Bytes). put x i y) e f ∙ ap (λ (k : ℕ). put (over (given s i) o) k q) (sym li)
+    ∙ over-put (given s i) q o (omega (arith, li, l)) ∙ ap (λ (x : Bytes). over x o) g
 
 -- the slice is full
-pub put-given-all : (s : Sponge) (o : Bytes) → put o 0 (given s (length o)) ≡ given s (length o)
-put-given-all s o = put-start o (given s (length o)) ∙ over-whole (given s (length o)) o (length-given s (length o))
+pub over-given-all : (s : Sponge) (o : Bytes) → over (given s (length o)) o ≡ given s (length o)
+over-given-all s o = over-whole (given s (length o)) o (length-given s (length o))
 
 -- ---- what stays
 

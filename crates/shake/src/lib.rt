@@ -14,23 +14,21 @@ pub struct Sponge {
     rate: usize,
 }
 
-// s is taken in from the place at on; the result is the place after it. Each block that gets full is permuted.
+// s is taken in from the place at on; the result is the place after it.
 fn take_in(a: &mut [u64; 25], rate: usize, at: usize, s: &[u8]) -> usize
-    requires { (length a.old ≡ 25) × Taking (sponge rate a.old at) }
+    requires { Taking (sponge rate a.old at) }
     ensures { sponge rate a.new result ≡ absorbed (sponge rate a.old at) s.now }
 {
     let mut j = at;
-    let mut i: usize = 0;
-    while rate - j <= s.len() - i {
-        let n = rate - j;
-        state::add_part(a, j, s, i, n);
+    let mut left = s;
+    while let Some((block, rest)) = left.split_at_checked(rate - j) {
+        state::add_part(a, j, block);
         keccak::permute(a);
-        i += n;
+        left = rest;
         j = 0;
     }
-    let n = s.len() - i;
-    state::add_part(a, j, s, i, n);
-    j + n
+    state::add_part(a, j, left);
+    j + left.len()
 }
 
 // b is taken in at the place at; the result is the place after it.
@@ -56,13 +54,6 @@ fn close(a: &mut [u64; 25], rate: usize, at: usize)
     keccak::permute(a);
 }
 
-// The smaller of two numbers.
-fn smaller(x: usize, y: usize) -> usize
-    ensures { result ≡ min x y }
-{
-    if x < y { x } else { y }
-}
-
 // The place of the next byte to give: where the block is spent, the next one is made.
 fn refill(a: &mut [u64; 25], rate: usize, j: usize) -> usize
     requires { Giving (sponge rate a.old j) }
@@ -85,8 +76,8 @@ fn give(a: &mut [u64; 25], rate: usize, at: usize, out: &mut [u8]) -> usize
     let mut i: usize = 0;
     while i < out.len() {
         let k = refill(a, rate, j);
-        let n = smaller(rate - k, out.len() - i);
-        state::give_part(a, k, out, i, n);
+        let n = (rate - k).min(out.len() - i);
+        state::give_part(a, k, &mut out[i..i + n]);
         j = k + n;
         i += n;
     }
@@ -111,9 +102,7 @@ impl Sponge {
         requires { Taking self }
         ensures { (result ≡ absorbed self s.now) × Taking result }
     {
-        let rate = self.rate;
-        let at = self.at;
-        self.at = take_in(&mut self.lanes, rate, at, s);
+        self.at = take_in(&mut self.lanes, self.rate, self.at, s);
         self
     }
 
@@ -122,9 +111,7 @@ impl Sponge {
         requires { Taking self }
         ensures { (result ≡ absorbed self (b ∷ [])) × Taking result }
     {
-        let rate = self.rate;
-        let at = self.at;
-        self.at = take_byte(&mut self.lanes, rate, at, b);
+        self.at = take_byte(&mut self.lanes, self.rate, self.at, b);
         self
     }
 
@@ -133,9 +120,7 @@ impl Sponge {
         requires { Taking self }
         ensures { (result ≡ absorbed self (x % 256 ∷ x / 256 ∷ [])) × Taking result }
     {
-        let low = (x % 256) as u8;
-        let high = (x / 256) as u8;
-        self.absorb_byte(low).absorb_byte(high)
+        self.absorb(&x.to_le_bytes())
     }
 
     // The message is ended.
@@ -143,9 +128,7 @@ impl Sponge {
         requires { Taking self }
         ensures { (result ≡ padded self) × Giving result }
     {
-        let rate = self.rate;
-        let at = self.at;
-        close(&mut self.lanes, rate, at);
+        close(&mut self.lanes, self.rate, self.at);
         self.at = 0;
         self
     }
@@ -155,9 +138,7 @@ impl Sponge {
         requires { Giving self }
         ensures { (result ≡ squeezed self (length out.old)) × (out.new ≡ given self (length out.old)) × Giving result }
     {
-        let rate = self.rate;
-        let at = self.at;
-        self.at = give(&mut self.lanes, rate, at, out);
+        self.at = give(&mut self.lanes, self.rate, self.at, out);
         self
     }
 }

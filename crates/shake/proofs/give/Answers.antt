@@ -1,48 +1,42 @@
 -- `shake::give` meets its contract. The invariant: the first i bytes are given.
-use mathlib.Core.Path.{◌≡◌, refl, ◌∙◌}
+use mathlib.Core.Path.{◌≡◌, ap, ◌∙◌}
+use Prim.Native.Nat.{◌+◌, ◌-◌}
 use native.Mathlib.Omega.{arith}
-use lib.ListN.{length}
+use lib.ListN.{length, take, drop, length-drop}
+use lib.Seq.{length-take-le}
+use Rattle.shake.specs.Shake.{bytes_at}
 use Rattle.shake.specs.Sponge.{sponge}
-use Rattle.shake.proofs.StateLaws.{length-bytes_at, length-put-bytes_at}
-use Rattle.shake.proofs.SpongeLaws.{squeezed-none, squeezed_block, put-given-none, put-given, put-given-all}
+use Rattle.shake.proofs.StateLaws.{length-bytes_at, put_mid-put}
+use Rattle.shake.proofs.SpongeLaws.{squeezed-none, squeezed_block, over-given-none, over-given, over-given-all}
 use Rattle.shake.proofs.give.Goals as goal
 
 pub loop-i-init : goal.loop-i-init
-loop-i-init c = (omega arith, refl, c.requires.within, squeezed-none _, put-given-none _ _)
-
-pub refill-k-requires : goal.refill-k-requires
-refill-k-requires c =
-    record { rated = c.requires.rated; within = c.loop-i.invariant.2 }
-
-pub give_part-requires : goal.give_part-requires
-give_part-requires c =
-    let h = c.requires.rated in
-    (omega (arith, h.small), omega arith)
-
-pub loop-i-smaller : goal.loop-i-smaller
-loop-i-smaller c =
-    let e = length-put-bytes_at c.loop-i.out _ _ _ c.loop-i.i c.smaller-n.result (omega arith) c.give_part.ensures in
-    omega (arith, e)
+loop-i-init c = (omega arith, c.requires.within, squeezed-none _, over-given-none _ _)
 
 pub loop-i-preserved : goal.loop-i-preserved
 loop-i-preserved c =
     let l = c.loop-i in
     let g = c.args in
     let v = l.invariant in
-    let n = c.smaller-n.result in
+    let n = c.min-n.result in
     let k = c.refill-k.result in
     let o = sponge g.rate g.a.now g.at in
-    let e = length-put-bytes_at l.out _ _ _ l.i n (omega arith) c.give_part.ensures in
-    let b = squeezed_block o g.rate l.a _ l.j k l.i n v.3 c.refill-k.ensures.0 c.requires.rated.some (omega arith) (omega arith) in
-    let d = put-given o g.out.now l.out l.i n _ _ (omega arith) v.4 (length-bytes_at _ _ _) b.1 c.give_part.ensures in
-    (omega (arith, e), e ∙ v.1, omega arith, b.0, d)
+    let p = c.give_part.new.out in
+    let r : l.i + n - l.i ≡ n = omega arith in
+    let t : length (take (l.i + n - l.i) (drop l.i l.out)) ≡ n =
+    length-take-le _ (drop l.i l.out) (omega (arith, length-drop l.i l.out)) ∙ r in
+    let e = c.give_part.ensures ∙ ap (bytes_at c.refill-k.new.a k) t in
+    let b = squeezed_block o g.rate l.a _ l.j k l.i n v.2 c.refill-k.ensures.0 c.requires.rated.some (omega arith) (omega arith) in (
+      omega arith,
+      omega arith,
+      b.0,
+      put_mid-put l.out p l.i _ (omega (arith, ap length e, length-bytes_at c.refill-k.new.a k n))
+          ∙ over-given o g.out.now l.out l.i n p _ (omega arith) v.3 (length-bytes_at _ _ _) e b.1,
+    )
 
 pub returns : goal.returns
 returns c =
     let l = c.loop-i in
     let o = c.args.out.now in
     let e : l.i ≡ length o = omega arith in
-    ((rw e at l.invariant.3), (rw e at l.invariant.4) ∙ put-given-all _ o)
-
-pub shape_of-out : goal.shape_of-out
-shape_of-out c = c.loop-i.invariant.1
+    ((rw e at l.invariant.2), (rw e at l.invariant.3) ∙ over-given-all _ o)

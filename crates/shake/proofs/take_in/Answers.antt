@@ -1,41 +1,29 @@
--- `shake::take_in` meets its contract. The invariant: the first i bytes are taken in.
-use mathlib.Core.Path.{ap, ◌∙◌}
+-- `shake::take_in` meets its contract. The invariant: what is left, taken in from here, is all of it taken in from the start.
+use mathlib.Core.Path.{sym, ap, ap₂, ◌∙◌}
+use mathlib.Core.List.{◌++◌}
+use Prim.Native.Nat.{◌+◌, ◌-◌, ◌<◌}
 use native.Mathlib.Omega.{arith}
-use lib.ListN.{length}
-use Rattle.keccak.proofs.LanesLaws.{length-permuted}
-use Rattle.shake.specs.Sponge.{sponge}
-use Rattle.shake.proofs.StateLaws.{length_is_added}
-use Rattle.shake.proofs.SpongeLaws.{absorbed-none, absorbed_block, absorbed_rest}
+use lib.ListN.{length, take-append-drop}
+use Rattle.keccak.specs.Lanes.{Lanes}
+use Rattle.shake.specs.Sponge.{sponge, absorbed}
+use Rattle.shake.proofs.SpongeLaws.{absorbed_block, absorbed-room}
 use Rattle.shake.proofs.take_in.Goals as goal
 
-pub loop-j-init : goal.loop-j-init
-loop-j-init c = let p = c.requires in (omega arith, p.0, p.1.room, absorbed-none _)
-
-pub add_part-requires : goal.add_part-requires
-add_part-requires c =
-    let h = c.requires.1.rated in
-    (c.loop-j.invariant.1, (omega (arith, h.small, h.words), omega arith))
-
-pub loop-j-preserved : goal.loop-j-preserved
-loop-j-preserved c =
-    let l = c.loop-j in
+pub loop-block-preserved : goal.loop-block-preserved
+loop-block-preserved c =
+    let l = c.loop-block in
     let g = c.args in
-    let v = l.invariant in
-    let lp = length_is_added _ _ _ _ c.add_part.ensures v.1 in (
-      omega arith,
-      ap length c.permute.ensures ∙ length-permuted _ lp,
-      c.requires.1.rated.some,
-      absorbed_block (sponge g.rate g.a.now g.at) g.s.now g.rate l.a l.j l.i _ _ v.3 v.2 (omega arith) c.add_part.ensures
-          c.permute.ensures,
+    let w = c.in-Some.ensures.cases in (
+      c.requires.rated.some,
+      absorbed_block g.rate l.a _ _ l.j _ _ l.invariant.0 (omega (arith, w.3)) c.add_part.ensures c.permute.ensures
+          ∙ ap (absorbed (sponge g.rate l.a l.j)) (ap₂ ◌++◌ w.1 w.2 ∙ take-append-drop _ l.left.now)
+          ∙ l.invariant.1,
     )
-
-pub add_part-requires-2 : goal.add_part-requires-2
-add_part-requires-2 c =
-    let h = c.requires.1.rated in
-    (c.loop-j.invariant.1, (omega (arith, h.small, h.words), omega arith))
 
 pub returns : goal.returns
 returns c =
-    let l = c.loop-j in
+    let l = c.loop-block in
     let g = c.args in
-    absorbed_rest (sponge g.rate g.a.now g.at) g.s.now g.rate l.a l.j l.i _ l.invariant.3 l.invariant.0 (omega arith) c.add_part-2.ensures
+    let h : length l.left.now < g.rate - l.j = c.in_default.ensures.cases in
+    ap (λ (x : Lanes). sponge g.rate x (l.j + length l.left.now)) c.add_part-2.ensures
+    ∙ sym (absorbed-room g.rate l.a l.j l.left.now (omega arith)) ∙ l.invariant.1
