@@ -1,4 +1,4 @@
--- Laws of the sponge as a value: pieces, what stays within a block, and what each method keeps.
+-- Laws of the sponge as a value: pieces, what stays within a block, and what stays.
 use mathlib.Core.Path.{◌≡◌, refl, sym, ap, ap₂, ◌∙◌, subst}
 use mathlib.Core.Bool.{Bool, true, false}
 use mathlib.Core.List.{[], ◌∷◌, ◌++◌}
@@ -14,7 +14,7 @@ use Rattle.slices.specs.Slices.{Bytes, put, over}
 use Rattle.slices.proofs.SliceLaws.{over_none, over-put, over-whole}
 use Rattle.shake.specs.declared.Sponge.{Sponge}
 use Rattle.shake.specs.Shake.{byte_at, bytes_at, byte_added, added}
-use Rattle.shake.specs.Sponge.{sponge, absorbed_byte, absorbed, ready, passed, given, squeezed, Taking, Giving, AbsorbsInPieces, SqueezesInPieces}
+use Rattle.shake.specs.Sponge.{sponge, absorbed_byte, absorbed, ready, passed, given, squeezed, AbsorbsInPieces, SqueezesInPieces}
 use Rattle.shake.proofs.StateLaws.{length-byte_added}
 
 -- ---- pieces
@@ -31,10 +31,6 @@ absorbed-append = absorbs_in_pieces
 pub absorbed-none : (s : Sponge) → s ≡ absorbed s []
 unfolding absorbed
 absorbed-none s = refl
-
-pub absorbed-one : (s : Sponge) (b : ℕ) → absorbed_byte s b ≡ absorbed s (b ∷ [])
-unfolding absorbed
-absorbed-one s b = refl
 
 pub squeezed-add : (s : Sponge) (m n : ℕ) → squeezed (squeezed s m) n ≡ squeezed s (m + n)
 unfolding squeezed
@@ -156,14 +152,14 @@ unfolding squeezed
 squeezed-ready s zero h l = absurd (omega arith)
 squeezed-ready s (suc n) h l = rw (ready_twice s h)
 
--- s has given i bytes: n more from the block that is ready
-pub squeezed_block : (s : Sponge) (r : ℕ) (a b : Lanes) (j k i n : ℕ) → sponge r a j ≡ squeezed s i → sponge r b k ≡ ready (sponge r a j)
-    → 0 < r → 0 < n → k + n ≤ r → (sponge r b (k + n) ≡ squeezed s (i + n)) × (given s i ++ bytes_at b k n ≡ given s (i + n))
-squeezed_block s r a b j k i n e f hr hn h = (
-  sym (squeezed-room r b k n h) ∙ ap (λ (t : Sponge). squeezed t n) f ∙ squeezed-ready (sponge r a j) n hr hn
-      ∙ ap (λ (t : Sponge). squeezed t n) e ∙ squeezed-add s i n,
+-- s has given i bytes and is now t: n more from u, the block that is ready
+pub squeezed_block : (s t u : Sponge) (i n : ℕ) → t ≡ squeezed s i → u ≡ ready t → 0 < t.rate → 0 < n → u.at + n ≤ u.rate
+    → (sponge u.rate u.lanes (u.at + n) ≡ squeezed s (i + n)) × (given s i ++ bytes_at u.lanes u.at n ≡ given s (i + n))
+squeezed_block s t u i n e f hr hn h = (
+  sym (squeezed-room u.rate u.lanes u.at n h) ∙ ap (λ (x : Sponge). squeezed x n) f ∙ squeezed-ready t n hr hn
+      ∙ ap (λ (x : Sponge). squeezed x n) e ∙ squeezed-add s i n,
   ap (λ (p : Bytes). given s i ++ p)
-      (sym (given-room r b k n h) ∙ ap (λ (t : Sponge). given t n) f ∙ given-ready (sponge r a j) n hr hn ∙ ap (λ (t : Sponge). given t n) e)
+      (sym (given-room u.rate u.lanes u.at n h) ∙ ap (λ (x : Sponge). given x n) f ∙ given-ready t n hr hn ∙ ap (λ (x : Sponge). given x n) e)
       ∙ given-add s i n,
 )
 
@@ -187,9 +183,8 @@ over-given-all s o = over-whole (given s (length o)) o (length-given s (length o
 
 -- ---- what stays
 
--- rate, room and length, after one byte taken in
+-- rate and length, after one byte taken in
 record Kept (s t : Sponge) : Type 0 where
-  taking : Taking s → Taking t
   rate : t.rate ≡ s.rate
   lanes : length s.lanes ≡ 25 → length t.lanes ≡ 25
 
@@ -208,49 +203,22 @@ kept_byte s b = go (eqb (s.at + 1) s.rate) refl
     go : (t : Bool) → eqb (s.at + 1) s.rate ≡ t → Kept s (absorbed_byte s b)
     go true e =
         subst (Kept s) (sym (absorbed-last s.rate s.lanes s.at b (eqb-true _ _ e)))
-        (record { taking = λ t. record { rated = t.rated; room = t.rated.some }; rate = refl; lanes = λ l. length-permuted a (la l) })
+        (record { rate = refl; lanes = λ l. length-permuted a (la l) })
     go false e =
         let n = eqb-false _ _ e in
         subst (Kept s) (sym (absorbed-next s.rate s.lanes s.at b n))
-        (record { taking = λ t. record { rated = t.rated; room = omega (arith, t.room) }; rate = refl; lanes = la })
+        (record { rate = refl; lanes = la })
 
 kept : (s : Sponge) (m : Bytes) → Kept s (absorbed s m)
 unfolding absorbed
-kept s [] = record { taking = λ t. t; rate = refl; lanes = λ l. l }
+kept s [] = record { rate = refl; lanes = λ l. l }
 kept s (b ∷ m) =
     let p = kept_byte s b in
     let q = kept (absorbed_byte s b) m in
-    record { taking = λ t. q.taking (p.taking t); rate = q.rate ∙ p.rate; lanes = λ l. q.lanes (p.lanes l) }
-
-pub taking_absorbed : (s : Sponge) (m : Bytes) → Taking s → Taking (absorbed s m)
-taking_absorbed s m = (kept s m).taking
-
--- a sponge that has taken in m, as the next method asks for it
-pub and_taking : (s t : Sponge) (m : Bytes) → Taking s → t ≡ absorbed s m → (t ≡ absorbed s m) × Taking t
-and_taking s t m h e = (e, rw e (taking_absorbed s m h))
+    record { rate = q.rate ∙ p.rate; lanes = λ l. q.lanes (p.lanes l) }
 
 pub rate_absorbed : (s : Sponge) (m : Bytes) → (absorbed s m).rate ≡ s.rate
 rate_absorbed s m = (kept s m).rate
 
 pub length-absorbed : (s : Sponge) (m : Bytes) → length s.lanes ≡ 25 → length (absorbed s m).lanes ≡ 25
 length-absorbed s m = (kept s m).lanes
-
-giving_passed : (s : Sponge) → Giving s → Giving (passed (ready s))
-giving_passed s g = go (eqb s.at s.rate) refl
-  where
-    go : (t : Bool) → eqb s.at s.rate ≡ t → Giving (passed (ready s))
-    go true e =
-        rw (ready_spent s.rate s.lanes s.at (eqb-true _ _ e), passed-one)
-        (record { rated = g.rated; within = omega (arith, g.rated.some) })
-    go false e =
-        let n = eqb-false _ _ e in
-        rw (ready-more s.rate s.lanes s.at n, passed-one) (record { rated = g.rated; within = omega (arith, g.within) })
-
-pub giving_squeezed : (s : Sponge) (n : ℕ) → Giving s → Giving (squeezed s n)
-unfolding squeezed
-giving_squeezed s zero g = g
-giving_squeezed s (suc n) g = giving_squeezed (passed (ready s)) n (giving_passed s g)
-
--- a sponge that has given n bytes, as the next method asks for it
-pub giving_is : (s t : Sponge) (n : ℕ) → Giving s → t ≡ squeezed s n → Giving t
-giving_is s t n h e = rw e (giving_squeezed s n h)

@@ -22,14 +22,6 @@ pub length-byte_added : (a : Lanes) (j b : ℕ) → length (byte_added a j b) �
 unfolding byte_added
 length-byte_added a j b = length-set a (j / 8) _
 
-pub length-added : (a : Lanes) (j : ℕ) (p : Bytes) → length (added a j p) ≡ length a
-unfolding added
-length-added a j [] = refl
-length-added a j (b ∷ p) = length-added (byte_added a j b) (j + 1) p ∙ length-byte_added a j b
-
-pub length_is_added : (a b : Lanes) (j : ℕ) (p : Bytes) → b ≡ added a j p → length a ≡ 25 → length b ≡ 25
-length_is_added a b j p e l = ap length e ∙ length-added a j p ∙ l
-
 pub added_none : (a : Lanes) (j : ℕ) → a ≡ added a j []
 unfolding added
 added_none a j = refl
