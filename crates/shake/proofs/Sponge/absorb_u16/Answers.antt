@@ -1,14 +1,14 @@
--- `shake::Sponge::absorb_u16` meets its contract: two bytes, one by one.
-use mathlib.Core.Path.{ap, ◌∙◌}
+-- `shake::Sponge::absorb_u16` meets its contract.
+use mathlib.Core.Path.{◌≡◌, ap, ◌∙◌}
 use mathlib.Core.List.{[], ◌∷◌}
-use Prim.Native.Nat.{◌/◌}
-use Rattle.shake.specs.declared.Sponge.{Sponge}
+use Prim.Native.Nat.{ℕ, ◌/◌, ◌%◌}
+use native.Mathlib.Omega.{arith}
 use Rattle.shake.specs.Sponge.{absorbed}
-use Rattle.shake.proofs.SpongeLaws.{absorbed-append}
 use Rattle.shake.proofs.Sponge.absorb_u16.Goals as goal
 
 pub returns : goal.returns
 returns c =
-    let h = c.absorb_byte-2.ensures in
+    let h = c.absorb.ensures in
     let x = c.args.x in
-    (h.0 ∙ ap (λ (s : Sponge). absorbed s (x / 256 ∷ [])) c.absorb_byte.ensures.0 ∙ absorbed-append _ _ _, h.1)
+    let e : x / 256 % 256 ≡ x / 256 = omega arith in
+    (h.0 ∙ ap (absorbed c.args.self) (c.to_le_bytes.ensures ∙ ap (λ (y : ℕ). x % 256 ∷ y ∷ []) e), h.1)
