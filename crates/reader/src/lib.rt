@@ -58,7 +58,7 @@ pub fn after_bit(s: &[u8], at: Position) -> Position
 fn whole(bits: usize) -> usize
     ensures { result ≡ width bits }
 {
-    bits / 8 + (bits % 8 + 7) / 8
+    bits.div_ceil(8)
 }
 
 // Where n whole bytes that follow a position start, if so many do.
