@@ -82,7 +82,7 @@ pub fn padded(s: &[u8], at: usize, m: usize) -> bool
     requires { (0 < m) × ((m ≤ 65536) × (at + width m ≤ length s.now)) }
     ensures { result ≡ zero_padded m (drop at s.now) }
 {
-    let n = (m + 7) / 8;
+    let n = m.div_ceil(8);
     let last = at + (n - 1);
     let unit = 1u8 << (8 * n - m);
     s[last] % unit == 0

@@ -21,11 +21,8 @@ fn put_values(p: Set, s: &[u8], output: &mut [u8])
     requires { IsSet p × ((header_length p ≤ length s.now) × (p.t ≤ length output.old)) }
     ensures { output.new ≡ over (values p s.now) output.old }
 {
-    let t = p.t;
-    let mut k = 0;
-    while k < t {
-        output[k] = parts::value(s, k);
-        k += 1;
+    for (k, v) in output[..p.t].iter_mut().enumerate() {
+        *v = parts::value(s, k);
     }
 }
 
@@ -50,17 +47,14 @@ fn put_slots(p: Set, s: &[u8], output: &mut [u8])
     ensures { output.new ≡ put output.old (p.t + salt_length)
         (unpack (rounds_fields p (values p s.now)) (drop (header_length p + salt_length) s.now)) }
 {
-    let t = p.t;
     let most = p.round_most();
     let mut at = p.header() + Set::SALT;
-    let mut to = t + Set::SALT;
-    let mut k = 0;
-    while k < t {
+    let mut to = p.t + Set::SALT;
+    for k in 0..p.t {
         let e = parts::value(s, k);
         put_slot(p, e, s, at, output, to);
         at += parts::round_length(p, e);
         to += most;
-        k += 1;
     }
 }
 
@@ -81,15 +75,7 @@ fn value_wrong(p: Set, x: &[u8]) -> bool
     requires { IsSet p × (p.t ≤ length x.now) }
     ensures { result ≡ value_wrong p x.now }
 {
-    let t = p.t;
-    let mut k = 0;
-    while k < t {
-        if 3 <= x[k] {
-            return true;
-        }
-        k += 1;
-    }
-    false
+    x[..p.t].iter().any(|v| 3 <= *v)
 }
 
 // The n bytes from a place on are zero.
@@ -97,14 +83,7 @@ fn zeros(x: &[u8], at: usize, n: usize) -> bool
     requires { at + n ≤ length x.now }
     ensures { result ≡ all is_zero (part x.now at n) }
 {
-    let mut i = 0;
-    while i < n {
-        if x[at + i] != 0 {
-            return false;
-        }
-        i += 1;
-    }
-    true
+    x[at..at + n].iter().all(|b| *b == 0)
 }
 
 // The slot of a round of value e has zero padding, and a zero share where e is 0.
@@ -126,18 +105,9 @@ fn slot_wrong(p: Set, x: &[u8]) -> bool
     requires { IsSet p × (length x.now ≡ unpacked_length p) }
     ensures { result ≡ slot_wrong p x.now }
 {
-    let t = p.t;
     let most = p.round_most();
-    let mut at = t + Set::SALT;
-    let mut k = 0;
-    while k < t {
-        if !slot_clean(p, x[k], x, at) {
-            return true;
-        }
-        at += most;
-        k += 1;
-    }
-    false
+    let first = p.t + Set::SALT;
+    (0..p.t).any(|k| !slot_clean(p, x[k], x, first + k * most))
 }
 
 // The first check of writing that holds.
@@ -164,18 +134,15 @@ fn put_rounds(p: Set, x: &[u8], output: &mut [u8]) -> usize
         × (output.new ≡ put output.old (header_length p + salt_length)
         (pack (rounds_fields p (values_in p x.now)) (drop (p.t + salt_length) x.now))) }
 {
-    let t = p.t;
     let most = p.round_most();
-    let mut from = t + Set::SALT;
+    let mut from = p.t + Set::SALT;
     let mut at = p.header() + Set::SALT;
-    let mut k = 0;
-    while k < t {
+    for k in 0..p.t {
         let n = parts::round_length(p, x[k]);
         let end = from + n;
         slices::place(&x[from..end], output, at);
         at += n;
         from += most;
-        k += 1;
     }
     at
 }
