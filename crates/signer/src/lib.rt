@@ -319,13 +319,10 @@ fn fill(
         (signer_filling p (cipher_of p keys.now layers.now constants.now) secret.now public.now seeds.now)
         room.old }
 {
-    let rounds = p.t;
-    let mut t = 0;
-    while t < rounds {
+    for t in 0..p.t {
         fill_round(
             p, keys, layers, constants, secret, public, seeds, states, t, room,
         );
-        t += 1;
     }
 }
 
@@ -469,14 +466,11 @@ fn write(
         output.old) }
 {
     write_front(p, seeds, values, output);
-    let rounds = p.t;
     let mut at = p.header() + Set::SALT;
-    let mut t = 0;
-    while t < rounds {
+    for (t, e) in values.iter().enumerate() {
         at = write_round(
-            p, keys, layers, constants, secret, public, seeds, states, t, values[t], output, at,
+            p, keys, layers, constants, secret, public, seeds, states, t, *e, output, at,
         );
-        t += 1;
     }
     at
 }

@@ -367,14 +367,11 @@ fn fill(
         room.old)
         × (length (verifier_filling p (cipher_of p keys.now layers.now constants.now) public.now (form p signature.now)) ≡ room_length p) }
 {
-    let rounds = p.t;
     let mut cursor = parts::start(p);
-    let mut t = 0;
-    while t < rounds {
+    for t in 0..p.t {
         let here = parts::locate(p, signature, cursor);
         fill_at(p, keys, layers, constants, public, signature, here, t, room);
         cursor = here.next;
-        t += 1;
     }
 }
 
@@ -383,12 +380,9 @@ fn agrees(p: Set, found: &[u8], signature: &[u8]) -> bool
     requires { IsSet p × (length found.now ≡ p.t) × (header_length p ≤ length signature.now) }
     ensures { result ≡ equal found.now (values p signature.now) }
 {
-    let n = p.t;
     let mut d = 0u8;
-    let mut k = 0;
-    while k < n {
-        d |= found[k] ^ parts::value(signature, k);
-        k += 1;
+    for (k, v) in found.iter().enumerate() {
+        d |= *v ^ parts::value(signature, k);
     }
     d == 0
 }
