@@ -222,8 +222,7 @@ fn commit_party(p: Set, seed: &[u8], share: Block, said: [u8; 143], output_share
     let w = p.width();
     let m = p.transcript();
     let x = room::stored(p, share);
-    let y = room::stored(p, output_share);
-    room::committed(p, seed, &x[..w], &said[..m], &y[..w])
+    room::committed(p, seed, &x[..w], &said[..m], output_share)
 }
 
 // The commitment of party j in round t, at the start of an array.

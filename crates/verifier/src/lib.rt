@@ -194,30 +194,9 @@ fn commit_first(p: Set, seed: &[u8], share: &[u8], again: Again) -> [u8; 64]
         → take p.digest result
         ≡ commitment p seed.now share.now (bytes_of (3 * p.s * p.r) (flat (3 * p.s) u)) (bytes_of p.n (block_bits again.first)) }
 {
-    let w = p.width();
     let m = p.transcript();
-    let said = again.said;
-    let first = again.first;
-    let s = room::transcribed(p, said);
-    let y = room::stored(p, first);
-    room::committed(p, seed, share, &s[..m], &y[..w])
-}
-
-// The commitment of party e+1, whose transcript the signature shows, at the start of an array.
-fn commit_second(
-    p: Set,
-    seed: &[u8],
-    share: &[u8],
-    transcript: &[u8],
-    output_share: Block,
-) -> [u8; 64]
-    requires { IsSet p }
-    ensures { take p.digest result
-        ≡ commitment p seed.now share.now transcript.now (bytes_of p.n (block_bits output_share)) }
-{
-    let w = p.width();
-    let y = room::stored(p, output_share);
-    room::committed(p, seed, share, transcript, &y[..w])
+    let s = room::transcribed(p, again.said);
+    room::committed(p, seed, share, &s[..m], again.first)
 }
 
 // The commitments of round t in the room: two recomputed, and the third from the signature.
@@ -248,7 +227,7 @@ fn put_commitments(
     let share1 = x.share1;
     let share2 = x.share2;
     let a = commit_first(p, seed1, &share1[..w], again);
-    let b = commit_second(p, seed2, &share2[..w], transcript, second);
+    let b = room::committed(p, seed2, &share2[..w], transcript, second);
     room::put_commitments(p, t, e, &a[..n], &b[..n], shown, room);
 }
 

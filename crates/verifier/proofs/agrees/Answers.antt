@@ -1,10 +1,8 @@
 -- `verifier::agrees` meets its contract.
-use mathlib.Core.Path.{refl}
 use native.Mathlib.Omega.{arith}
 use Rattle.slices.proofs.EqualLaws.{equal-none}
 use Rattle.shape.specs.Header.{values}
 use Rattle.verifier.proofs.FillLaws.{agree_more, agree_all, value-within}
-use borrow.Author.Rules.{rules}
 use Rattle.verifier.proofs.agrees.Goals as goal
 
 pub loop-k-init : goal.loop-k-init
