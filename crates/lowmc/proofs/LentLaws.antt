@@ -15,6 +15,7 @@ use Rattle.sets.specs.Sets.{IsSet}
 use Rattle.sets.specs.Lengths.{w, constants_length}
 use Rattle.sets.proofs.Each.{each}
 use Rattle.circuit.specs.Matrices.{product}
+use Rattle.lowmc.specs.declared.tables.Tables.{Tables}
 use Rattle.lowmc.specs.Lent.{row, matrix, matrix_of, constant_of}
 use Rattle.lowmc.specs.Inner.{Words, InWord}
 
@@ -63,6 +64,14 @@ matrix_end k n w = sym (ap (λ (m : ℕ). m * w) (sym (row_end k n)) ∙ add-mul
 pub matrix-room : (k r n w : ℕ) → k < r → (k + 1) * n * w ≤ r * n * w
 matrix-room k r n w l =
     mul-le-mul_right {m = (k + 1) * n} {n = r * n} w (mul-le-mul_right {m = k + 1} {n = r} n (omega arith))
+
+-- lent tables hold matrix k
+module _ (t : Tables) (k : ℕ) where
+  pub key_room : k ≤ t.set.r → (k + 1) * t.set.n * w t.set ≤ length t.keys.now
+  key_room l = omega (arith, t.lent.keys_length, matrix-room k (t.set.r + 1) t.set.n (w t.set) (omega arith))
+
+  pub layer_room : k < t.set.r → (k + 1) * t.set.n * w t.set ≤ length t.layers.now
+  layer_room l = omega (arith, t.lent.layers-length, matrix-room k t.set.r t.set.n (w t.set) l)
 
 -- ---- lent parts, at the width x that the code computes
 

@@ -1,4 +1,6 @@
 pub mod Lent
+pub mod LentProp
+pub mod Cipher
 pub mod Encrypted
 pub mod Inner
 pub mod Calls

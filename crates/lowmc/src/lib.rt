@@ -1,26 +1,27 @@
-// LowMC over lent tables: products, S-boxes, a round, the encryption, a public key. No branch and no index depends on a secret bit.
+// LowMC: products, S-boxes, and the calls over lent tables. No branch and no index depends on a secret bit.
 #![tactic(auto)]
 
 ghost use Rattle.std.specs.Prelude.{◌≡◌, ◌+◌, ◌*◌, ◌%◌, ◌≤◌, ◌<◌, length};
-ghost use Rattle.slices.specs.Slices.{over};
 ghost use Rattle.bits.specs.Bits.{◌⊕◌, Agree, up_to, from};
 ghost use Rattle.bits.specs.Bytes.{bits_of, odd, digit};
 ghost use Rattle.bits.specs.Words.{word_bits, block_bits, Holds};
 ghost use Rattle.bits.specs.Inner.{low_bits};
 ghost use Rattle.sets.specs.Sets.{IsSet};
 ghost use Rattle.answers.specs.Answers.{first};
-ghost use Rattle.sets.specs.Lengths.{w, keys_length, layers_length, constants_length, public_length};
+ghost use Rattle.sets.specs.Lengths.{w};
 ghost use Rattle.circuit.specs.Matrices.{row_parity, product};
-ghost use Rattle.circuit.specs.Lowmc.{sboxes, step, encryption};
+ghost use Rattle.circuit.specs.Lowmc.{sboxes};
 ghost use Rattle.circuit.specs.Gates.{left_factor, right_factor, sboxes_by};
-ghost use Rattle.lowmc.specs.Lent.{row, matrix_of, constant_of, cipher_of, Lent};
-ghost use Rattle.lowmc.specs.Encrypted.{encrypted, public_key};
+ghost use Rattle.lowmc.specs.Lent.{row, matrix_of};
 ghost use Rattle.lowmc.specs.Inner.{Words, InWord, starts, Laned};
 ghost use Rattle.lowmc.specs.Calls.{lowmc_checks, EncryptPromise, PublicKeyPromise};
+
+mod tables;
 
 use answers::Refusal;
 use bits::Block;
 use sets::{Chosen, Set};
+pub use tables::Tables;
 
 // The ones in word k of row AND v. Words of v have their first byte lowest, as words of the row have when they are loaded: the
 // order of bytes does not count, and so nothing is turned in the loop over rows.
@@ -215,17 +216,6 @@ pub fn products(p: Set, table: &[u8], k: usize, v: Pair) -> Pair
     products_rows(&table[at..end], w, v)
 }
 
-// Round constant i.
-pub fn constant(p: Set, constants: &[u8], i: usize) -> Block
-    requires { IsSet p × (length constants.now ≡ constants_length p) × (i < p.r) }
-    ensures { block_bits result ≡ constant_of p.n constants.now i }
-{
-    let w = p.width();
-    let at = i * w;
-    let end = at + w;
-    Block::load(&constants[at..end])
-}
-
 // Every third place of a word, from the first on.
 const THIRDS: u64 = 0x9249_2492_4924_9249;
 
@@ -320,23 +310,6 @@ pub fn right(p: Set, x: Block) -> u64
     l.b ^ (l.c >> 1) ^ (l.a >> 2)
 }
 
-// What stands before the first round: Kmatrix[0]·key, and c.
-pub fn start(p: Set, keys: &[u8], key: Block, c: Block) -> Block
-    requires { IsSet p × (length keys.now ≡ keys_length p) }
-    ensures { block_bits result ≡ product p.n (matrix_of p.n keys.now 0) (block_bits key) ⊕ block_bits c }
-{
-    product(p, keys, 0, key).xor(c)
-}
-
-// What follows the S-boxes of a round, y: Lmatrix[i]·y, c, and Kmatrix[i+1]·key.
-pub fn turn(p: Set, keys: &[u8], layers: &[u8], i: usize, key: Block, c: Block, y: Block) -> Block
-    requires { IsSet p × (length keys.now ≡ keys_length p) × (length layers.now ≡ layers_length p) × (i < p.r) }
-    ensures { block_bits result ≡ product p.n (matrix_of p.n layers.now i) (block_bits y)
-        ⊕ block_bits c ⊕ product p.n (matrix_of p.n keys.now (i + 1)) (block_bits key) }
-{
-    product(p, layers, i, y).xor(c.xor(product(p, keys, i + 1, key)))
-}
-
 // The exclusive or of two pairs.
 fn xor_both(x: Pair, y: Pair) -> Pair
     ensures { (block_bits result.a ≡ block_bits x.a ⊕ block_bits y.a) × (block_bits result.b ≡ block_bits x.b ⊕ block_bits y.b) }
@@ -348,105 +321,6 @@ fn xor_both(x: Pair, y: Pair) -> Pair
     let a = xa.xor(ya);
     let b = xb.xor(yb);
     Pair { a, b }
-}
-
-// `start` for two keys, each with a c of its own.
-pub fn start_both(p: Set, keys: &[u8], key: Pair, c: Pair) -> Pair
-    requires { IsSet p × (length keys.now ≡ keys_length p) }
-    ensures { (block_bits result.a ≡ product p.n (matrix_of p.n keys.now 0) (block_bits key.a) ⊕ block_bits c.a)
-        × (block_bits result.b ≡ product p.n (matrix_of p.n keys.now 0) (block_bits key.b) ⊕ block_bits c.b) }
-{
-    xor_both(products(p, keys, 0, key), c)
-}
-
-// `turn` for two keys, each with a c and a y of its own.
-pub fn turn_both(p: Set, keys: &[u8], layers: &[u8], i: usize, key: Pair, c: Pair, y: Pair) -> Pair
-    requires { IsSet p × (length keys.now ≡ keys_length p) × (length layers.now ≡ layers_length p) × (i < p.r) }
-    ensures { (block_bits result.a ≡ product p.n (matrix_of p.n layers.now i) (block_bits y.a)
-        ⊕ block_bits c.a ⊕ product p.n (matrix_of p.n keys.now (i + 1)) (block_bits key.a))
-        × (block_bits result.b ≡ product p.n (matrix_of p.n layers.now i) (block_bits y.b)
-        ⊕ block_bits c.b ⊕ product p.n (matrix_of p.n keys.now (i + 1)) (block_bits key.b)) }
-{
-    let l = products(p, layers, i, y);
-    let k = products(p, keys, i + 1, key);
-    xor_both(l, xor_both(c, k))
-}
-
-// A round of LowMC.
-pub fn step(
-    p: Set,
-    keys: &[u8],
-    layers: &[u8],
-    constants: &[u8],
-    i: usize,
-    key: Block,
-    x: Block,
-) -> Block
-    requires { Lent p keys.now layers.now constants.now × (i < p.r) }
-    ensures { block_bits result ≡ step (cipher_of p keys.now layers.now constants.now) (block_bits key) i (block_bits x) }
-{
-    let c = constant(p, constants, i);
-    turn(p, keys, layers, i, key, c, sboxes(p, x))
-}
-
-// The encryption of a block under a key.
-pub fn encryption(
-    p: Set,
-    keys: &[u8],
-    layers: &[u8],
-    constants: &[u8],
-    key: Block,
-    block: Block,
-) -> Block
-    requires { Lent p keys.now layers.now constants.now }
-    ensures { block_bits result ≡ encryption (cipher_of p keys.now layers.now constants.now) (block_bits key) (block_bits block) }
-{
-    let r = p.r;
-    let mut x = start(p, keys, key, block);
-    let mut i = 0;
-    while i < r {
-        x = step(p, keys, layers, constants, i, key, x);
-        i += 1;
-    }
-    x
-}
-
-// The encryption of a block under a secret key, at the start of output.
-pub fn encrypt(
-    p: Set,
-    keys: &[u8],
-    layers: &[u8],
-    constants: &[u8],
-    secret: &[u8],
-    block: &[u8],
-    output: &mut [u8],
-)
-    requires { Lent p keys.now layers.now constants.now
-        × (length secret.now ≡ w p) × (length block.now ≡ w p) × (w p ≤ length output.old) }
-    ensures { output.new ≡ over (encrypted p keys.now layers.now constants.now secret.now block.now) output.old }
-{
-    let w = p.width();
-    let key = Block::load(secret);
-    let x = encryption(p, keys, layers, constants, key, Block::load(block));
-    x.store(&mut output[0..w]);
-}
-
-// The public key of a secret key and a plaintext block, at the start of output.
-pub fn public_key(
-    p: Set,
-    keys: &[u8],
-    layers: &[u8],
-    constants: &[u8],
-    secret: &[u8],
-    block: &[u8],
-    output: &mut [u8],
-)
-    requires { Lent p keys.now layers.now constants.now
-        × (length secret.now ≡ w p) × (length block.now ≡ w p) × (public_length p ≤ length output.old) }
-    ensures { output.new ≡ over (public_key p keys.now layers.now constants.now secret.now block.now) output.old }
-{
-    encrypt(p, keys, layers, constants, secret, block, output);
-    slices::place(block, output, p.width());
 }
 
 // What the calls over LowMC refuse, by the lengths of their slices.
@@ -505,7 +379,13 @@ pub fn encrypt_call(
     if !why.fine() {
         return why.answer(0);
     }
-    encrypt(p, keys, layers, constants, secret, block, output);
+    let tables = Tables {
+        set: p,
+        keys,
+        layers,
+        constants,
+    };
+    tables.encrypt(secret, block, output);
     Refusal::Fine.answer(n as u32)
 }
 
@@ -539,6 +419,12 @@ pub fn public_key_call(
     if !why.fine() {
         return why.answer(0);
     }
-    public_key(p, keys, layers, constants, secret, block, output);
+    let tables = Tables {
+        set: p,
+        keys,
+        layers,
+        constants,
+    };
+    tables.public_key(secret, block, output);
     Refusal::Fine.answer(n as u32)
 }

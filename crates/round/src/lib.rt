@@ -15,13 +15,14 @@ ghost use Rattle.circuit.specs.Gates.{sboxes_by};
 ghost use Rattle.circuit.specs.Round.{Party, party0, party1, party2, next, gates, advance};
 ghost use Rattle.circuit.specs.RoundTheorems.{xor3};
 ghost use Rattle.circuit.specs.Tapes.{party_number};
-ghost use Rattle.lowmc.specs.Lent.{cipher_of, Lent};
+ghost use Rattle.lowmc.specs.Lent.{cipher_of};
+ghost use Rattle.lowmc.specs.Cipher.{cipher};
 ghost use Rattle.round.specs.Engine.{share_in, row_of, Written, opening_on_words, RecomputedAs, state_of, Traced, Simulated};
 ghost use Rattle.round.specs.Inner.{Begun, Stepped};
 ghost use Rattle.round.specs.Inputs.{input_share, Taped, tapes_of, opening_of};
 
 use bits::{Block, Strip};
-use lowmc::Pair;
+use lowmc::{Pair, Tables};
 use sets::Set;
 
 // A block for each party.
@@ -96,21 +97,11 @@ fn public_parts(in1: bool, in2: bool, c: Block) -> Pair
 }
 
 // Two shares of the state before the first round. The matrix is read once for both.
-fn start_shares(
-    p: Set,
-    keys: &[u8],
-    layers: &[u8],
-    constants: &[u8],
-    shares: Pair,
-    in1: bool,
-    in2: bool,
-    plain: Block,
-) -> Pair
-    requires { Lent p keys.now layers.now constants.now }
-    ensures { (block_bits result.a ≡ start (cipher_of p keys.now layers.now constants.now) (block_bits shares.a) (cond in1 (block_bits plain) zeros))
-        × (block_bits result.b ≡ start (cipher_of p keys.now layers.now constants.now) (block_bits shares.b) (cond in2 (block_bits plain) zeros)) }
+fn start_shares(tables: &Tables, shares: Pair, in1: bool, in2: bool, plain: Block) -> Pair
+    ensures { (block_bits result.a ≡ start (cipher tables.now) (block_bits shares.a) (cond in1 (block_bits plain) zeros))
+        × (block_bits result.b ≡ start (cipher tables.now) (block_bits shares.b) (cond in2 (block_bits plain) zeros)) }
 {
-    lowmc::start_both(p, keys, shares, public_parts(in1, in2, plain))
+    tables.start_both(shares, public_parts(in1, in2, plain))
 }
 
 // The layer of S-boxes on two shares: t and u are those parties' rows of gates.
@@ -128,10 +119,7 @@ fn substitute(p: Set, x: Pair, t: u64, u: u64) -> Pair
 
 // Round i of LowMC on two shares: t and u are those parties' rows of gates.
 fn advance_shares(
-    p: Set,
-    keys: &[u8],
-    layers: &[u8],
-    constants: &[u8],
+    tables: &Tables,
     i: usize,
     shares: Pair,
     in1: bool,
@@ -140,14 +128,14 @@ fn advance_shares(
     t: u64,
     u: u64,
 ) -> Pair
-    requires { Lent p keys.now layers.now constants.now × (i < p.r) }
-    ensures { (block_bits result.a ≡ advance (cipher_of p keys.now layers.now constants.now) i (block_bits shares.a)
-        (cond in1 ((cipher_of p keys.now layers.now constants.now).roundconstant i) zeros) (block_bits x.a) (word_bits t))
-        × (block_bits result.b ≡ advance (cipher_of p keys.now layers.now constants.now) i (block_bits shares.b)
-        (cond in2 ((cipher_of p keys.now layers.now constants.now).roundconstant i) zeros) (block_bits x.b) (word_bits u)) }
+    requires { i < tables.now.set.r }
+    ensures { (block_bits result.a ≡ advance (cipher tables.now) i (block_bits shares.a)
+        (cond in1 ((cipher tables.now).roundconstant i) zeros) (block_bits x.a) (word_bits t))
+        × (block_bits result.b ≡ advance (cipher tables.now) i (block_bits shares.b)
+        (cond in2 ((cipher tables.now).roundconstant i) zeros) (block_bits x.b) (word_bits u)) }
 {
-    let c = public_parts(in1, in2, lowmc::constant(p, constants, i));
-    lowmc::turn_both(p, keys, layers, i, shares, c, substitute(p, x, t, u))
+    let c = public_parts(in1, in2, tables.constant(i));
+    tables.turn_both(i, shares, c, substitute(tables.set, x, t, u))
 }
 
 // What a recomputation leaves: the output shares of the two opened parties, and the first one's transcript.
@@ -160,10 +148,7 @@ pub struct Again {
 
 // The verifier's recomputation for challenge e: input shares, the rows of the two opened tapes, and the second party's transcript.
 pub fn recompute(
-    p: Set,
-    keys: &[u8],
-    layers: &[u8],
-    constants: &[u8],
+    tables: &Tables,
     e: usize,
     share1: Block,
     share2: Block,
@@ -172,28 +157,24 @@ pub fn recompute(
     tape2: Strip,
     given: Strip,
 ) -> Again
-    requires { Lent p keys.now layers.now constants.now }
-    ensures { (j : Party) → e ≡ party_number j → RecomputedAs (cipher_of p keys.now layers.now constants.now) (block_bits plain) j
+    ensures { (j : Party) → e ≡ party_number j → RecomputedAs (cipher tables.now) (block_bits plain) j
         (opening_on_words share1 share2 tape1 tape2 given) result }
 {
-    let r = p.r;
     let in1 = e == 0;
     let in2 = e == 2;
     let shares = Pair {
         a: share1,
         b: share2,
     };
-    let mut s = start_shares(p, keys, layers, constants, shares, in1, in2, plain);
+    let mut s = start_shares(tables, shares, in1, in2, plain);
     let mut words = [0u64; 40];
-    let mut i = 0;
-    while i < r {
+    for i in 0..tables.set.r {
         let x = s.a;
         let y = s.b;
-        let g = gate_row(p, x, y, tape1.words[i], tape2.words[i]);
+        let g = gate_row(tables.set, x, y, tape1.words[i], tape2.words[i]);
         words[i] = g;
         let h = given.words[i];
-        s = advance_shares(p, keys, layers, constants, i, shares, in1, in2, s, g, h);
-        i += 1;
+        s = advance_shares(tables, i, shares, in1, in2, s, g, h);
     }
     let first = s.a;
     let second = s.b;
@@ -229,26 +210,15 @@ fn put_state(states: &mut [u64], i: usize, x: Block)
 }
 
 // The encryption of a block under a key with all its states, computed once for all rounds of a signature.
-pub fn all_states(
-    p: Set,
-    keys: &[u8],
-    layers: &[u8],
-    constants: &[u8],
-    key: Block,
-    block: Block,
-    states: &mut [u64],
-)
-    requires { Lent p keys.now layers.now constants.now × (length states.old ≡ 160) }
-    ensures { Traced (cipher_of p keys.now layers.now constants.now) (block_bits key) (block_bits block) states.new }
+pub fn all_states(tables: &Tables, key: Block, block: Block, states: &mut [u64])
+    requires { length states.old ≡ 160 }
+    ensures { Traced (cipher tables.now) (block_bits key) (block_bits block) states.new }
 {
-    let r = p.r;
-    let mut x = lowmc::start(p, keys, key, block);
+    let mut x = tables.start(key, block);
     put_state(states, 0, x);
-    let mut i = 0;
-    while i < r {
-        x = lowmc::step(p, keys, layers, constants, i, key, x);
-        i += 1;
-        put_state(states, i, x);
+    for i in 0..tables.set.r {
+        x = tables.step(i, key, x);
+        put_state(states, i + 1, x);
     }
 }
 
@@ -273,41 +243,22 @@ fn with_third(x: Pair, whole: Block) -> Shares
 }
 
 // The three states before the first round. The third is what the first two lack of the encryption's: a product less.
-fn begin(
-    p: Set,
-    keys: &[u8],
-    layers: &[u8],
-    constants: &[u8],
-    x: Shares,
-    plain: Block,
-    whole: Block,
-) -> Shares
-    requires { Lent p keys.now layers.now constants.now }
-    ensures { Begun (cipher_of p keys.now layers.now constants.now) (block_bits plain) (share_in x) (block_bits whole) (share_in result) }
+fn begin(tables: &Tables, x: Shares, plain: Block, whole: Block) -> Shares
+    ensures { Begun (cipher tables.now) (block_bits plain) (share_in x) (block_bits whole) (share_in result) }
 {
     let a = first_two(x);
-    let y = start_shares(p, keys, layers, constants, a, true, false, plain);
+    let y = start_shares(tables, a, true, false, plain);
     with_third(y, whole)
 }
 
 // Round i for the three: x are the input shares, s the states, g the rows of gates, whole the encryption's state after the round.
-fn step(
-    p: Set,
-    keys: &[u8],
-    layers: &[u8],
-    constants: &[u8],
-    i: usize,
-    x: Shares,
-    s: Shares,
-    g: Gates,
-    whole: Block,
-) -> Shares
-    requires { Lent p keys.now layers.now constants.now × (i < p.r) }
-    ensures { Stepped (cipher_of p keys.now layers.now constants.now) i (share_in x) (share_in s) (row_of g) (block_bits whole) (share_in result) }
+fn step(tables: &Tables, i: usize, x: Shares, s: Shares, g: Gates, whole: Block) -> Shares
+    requires { i < tables.now.set.r }
+    ensures { Stepped (cipher tables.now) i (share_in x) (share_in s) (row_of g) (block_bits whole) (share_in result) }
 {
     let a = first_two(x);
     let b = first_two(s);
-    let y = advance_shares(p, keys, layers, constants, i, a, true, false, b, g.a, g.b);
+    let y = advance_shares(tables, i, a, true, false, b, g.a, g.b);
     with_third(y, whole)
 }
 
@@ -344,10 +295,7 @@ pub struct View {
 
 // The signer's simulation: input shares, the tapes, and the states of the encryption under the key that is shared.
 pub fn simulate(
-    p: Set,
-    keys: &[u8],
-    layers: &[u8],
-    constants: &[u8],
+    tables: &Tables,
     x: Shares,
     plain: Block,
     t0: &[u8],
@@ -355,25 +303,21 @@ pub fn simulate(
     t2: &[u8],
     states: &[u64],
 ) -> View
-    requires { Lent p keys.now layers.now constants.now
-        × Traced (cipher_of p keys.now layers.now constants.now) (xor3 (share_in x)) (block_bits plain) states.now × (length states.now ≡ 160) }
-    ensures { Simulated (cipher_of p keys.now layers.now constants.now) (block_bits plain) (share_in x)
-        (tapes_of (cipher_of p keys.now layers.now constants.now) t0.now t1.now t2.now) result }
+    requires { Traced (cipher tables.now) (xor3 (share_in x)) (block_bits plain) states.now × (length states.now ≡ 160) }
+    ensures { Simulated (cipher tables.now) (block_bits plain) (share_in x)
+        (tapes_of (cipher tables.now) t0.now t1.now t2.now) result }
 {
-    let r = p.r;
-    let mut s = begin(p, keys, layers, constants, x, plain, state_at(states, 0));
+    let mut s = begin(tables, x, plain, state_at(states, 0));
     let mut a = [0u64; 40];
     let mut b = [0u64; 40];
     let mut c = [0u64; 40];
-    let mut i = 0;
-    while i < r {
-        let g = gate_rows(p, s, rows_at(p, t0, t1, t2, i));
+    for i in 0..tables.set.r {
+        let g = gate_rows(tables.set, s, rows_at(tables.set, t0, t1, t2, i));
         a[i] = g.a;
         b[i] = g.b;
         c[i] = g.c;
         let whole = state_at(states, i + 1);
-        s = step(p, keys, layers, constants, i, x, s, g, whole);
-        i += 1;
+        s = step(tables, i, x, s, g, whole);
     }
     View {
         out: s,
@@ -432,10 +376,7 @@ pub fn write_rows(p: Set, t: Strip, s: &mut [u8])
 
 // The verifier's recomputation from the bytes of two tapes and of a transcript.
 pub fn recompute_tapes(
-    p: Set,
-    keys: &[u8],
-    layers: &[u8],
-    constants: &[u8],
+    tables: &Tables,
     e: usize,
     share1: Block,
     share2: Block,
@@ -444,15 +385,13 @@ pub fn recompute_tapes(
     tape2: &[u8],
     given: &[u8],
 ) -> Again
-    requires { Lent p keys.now layers.now constants.now × (e < 3) }
-    ensures { (j : Party) → e ≡ party_number j → RecomputedAs (cipher_of p keys.now layers.now constants.now) (block_bits plain) j
-        (opening_of (cipher_of p keys.now layers.now constants.now) j (block_bits share1) (block_bits share2)
+    requires { e < 3 }
+    ensures { (j : Party) → e ≡ party_number j → RecomputedAs (cipher tables.now) (block_bits plain) j
+        (opening_of (cipher tables.now) j (block_bits share1) (block_bits share2)
         tape1.now tape2.now given.now) result }
 {
-    let a = tape_rows(p, e, tape1);
-    let b = tape_rows(p, (e + 1) % 3, tape2);
-    let c = rows_from(p, given, 0);
-    recompute(
-        p, keys, layers, constants, e, share1, share2, plain, a, b, c,
-    )
+    let a = tape_rows(tables.set, e, tape1);
+    let b = tape_rows(tables.set, (e + 1) % 3, tape2);
+    let c = rows_from(tables.set, given, 0);
+    recompute(tables, e, share1, share2, plain, a, b, c)
 }

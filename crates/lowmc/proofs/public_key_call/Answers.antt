@@ -27,10 +27,18 @@ returns-then-not-fine c =
     (public-refused _ c.args.keys.now c.args.layers.now c.args.constants.now c.args.secret.now c.args.block.now _ _ (sym c.numbered-chosen.ensures ∙ c.in-Known.is) _ _ c.refusal-why.ensures c.public_length-n.ensures (sym c.fine.ensures ∙ c.if-not-fine.true))
     c.answer-then-not-fine.ensures refl
 
+pub invariant_of-tables : goal.invariant_of-tables
+invariant_of-tables c =
+    let a = c.args in
+    record {
+      lent = lent _ a.keys.now a.layers.now a.constants.now a.secret.now a.block.now _ _ (known_set a.set _ (sym c.numbered-chosen.ensures ∙ c.in-Known.is))
+          (passed _ _ _ _ _ _ _ _ _ c.refusal-why.ensures (sym c.fine.ensures ∙ c.if-not-fine.false));
+    }
+
 pub public_key-requires : goal.public_key-requires
 public_key-requires c =
     let h = passed _ _ _ _ _ _ _ _ _ c.refusal-why.ensures (sym c.fine.ensures ∙ c.if-not-fine.false) in
-    (lent _ c.args.keys.now c.args.layers.now c.args.constants.now c.args.secret.now c.args.block.now _ _ (known_set c.args.set _ (sym c.numbered-chosen.ensures ∙ c.in-Known.is)) h, h.secret-length, h.block_length, subst (λ (k : ℕ). k ≤ length c.args.output.now) c.public_length-n.ensures h.enough)
+    (h.secret-length, h.block_length, subst (λ (k : ℕ). k ≤ length c.args.output.now) c.public_length-n.ensures h.enough)
 
 pub overflow_cast-n : goal.overflow_cast-n
 unfolding width

@@ -5,12 +5,6 @@ use Rattle.views.specs.Input.{challenge_input}
 use Rattle.room.proofs.RoomLaws.{fed_input, filled-from}
 use Rattle.room.proofs.challenge.Goals as goal
 
-pub first_block-requires : goal.first_block-requires
-first_block-requires c = (c.requires.0, c.absorb-u.ensures.1)
-
-pub fill-requires : goal.fill-requires
-fill-requires c = c.requires
-
 pub returns : goal.returns
 returns c =
     let a = c.args in

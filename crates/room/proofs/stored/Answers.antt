@@ -5,7 +5,7 @@ use native.Mathlib.Omega.{arith}
 use lib.Seq.{length-take-le}
 use Rattle.bits.specs.Words.{block_bits}
 use Rattle.bits.specs.Bytes.{bytes}
-use Rattle.room.proofs.RoomLaws.{sizes, stored_bits, front_of, take-small}
+use Rattle.room.proofs.RoomLaws.{sizes, stored_bits, front_of}
 use Rattle.room.proofs.stored.Goals as goal
 
 pub slice_bounds-s-end : goal.slice_bounds-s-end
@@ -13,11 +13,6 @@ slice_bounds-s-end c = omega (arith, (sizes c.requires).width, c.width-w.ensures
 
 pub slice_bounds-store-end : goal.slice_bounds-store-end
 slice_bounds-store-end c = sym (length-take-le _ _ (omega (arith, (sizes c.requires).width, c.width-w.ensures)))
-
-pub store-requires : goal.store-requires
-store-requires c =
-    let b : c.width-w.result ≤ 32 = omega (arith, (sizes c.requires).width, c.width-w.ensures) in
-    take-small _ _ _ b b
 
 pub returns : goal.returns
 returns c =

@@ -3,7 +3,7 @@ use mathlib.Core.Path.{sym, ◌∙◌}
 use Prim.Native.Nat.{◌≤◌}
 use native.Mathlib.Omega.{arith}
 use lib.Seq.{length-take-le}
-use Rattle.room.proofs.RoomLaws.{sizes, front_of}
+use Rattle.room.proofs.RoomLaws.{sizes}
 use Rattle.room.proofs.transcribed.Goals as goal
 
 pub slice_bounds-s-end : goal.slice_bounds-s-end
@@ -16,9 +16,3 @@ pub write_rows-requires : goal.write_rows-requires
 write_rows-requires c =
     let b : c.transcript-m.result ≤ 143 = omega (arith, (sizes c.requires.0).transcript, c.transcript-m.ensures) in
     (c.requires.0, length-take-le _ _ b ∙ c.transcript-m.ensures, c.requires.1)
-
-pub returns : goal.returns
-returns c =
-    let m = c.transcript-m in
-    let b : m.result ≤ 143 = omega (arith, (sizes c.requires.0).transcript, m.ensures) in
-    λ u x. front_of _ _ _ _ m.result m.ensures b c.write_rows.auto.s (c.write_rows.ensures u x)
