@@ -34,6 +34,7 @@ ghost use Rattle.signer.specs.Finished.{Finished};
 use answers::Refusal;
 use bits::Block;
 use challenge::Filled;
+use parts::Shown;
 use round::{Shares, View};
 use sets::{Chosen, Set};
 
@@ -362,17 +363,14 @@ fn write_parts(
     let d = p.digest;
     let m = p.transcript();
     let w = p.width();
-    parts::put_round(
-        p,
-        e,
-        &commitment[..d],
-        &said[..m],
-        &seeds[a..a + s],
-        &seeds[b..b + s],
-        &share[..w],
-        output,
-        at,
-    )
+    let shown = Shown {
+        commitment: &commitment[..d],
+        transcript: &said[..m],
+        seed1: &seeds[a..a + s],
+        seed2: &seeds[b..b + s],
+        share: &share[..w],
+    };
+    parts::put_round(p, e, shown, output, at)
 }
 
 // What is shown of round t for the value e, at a place of the output; where the next round starts.
