@@ -29,16 +29,16 @@ open_tapes-requires c =
     let n = c.tape_length-n in
     let a : length (take m.result c.party_tape-tape1.result) ≡ m.result = length-take-le _ _ (omega (arith, l, m.ensures.0)) in
     let b : length (take n.result c.party_tape-tape2.result) ≡ n.result = length-take-le _ _ (omega (arith, k, n.ensures.0)) in
-    (h.0, h.2, h.3, omega (arith, a, m.ensures.2), omega (arith, b, n.ensures.2), h.4, h.5)
+    (h.1, h.2, omega (arith, a, m.ensures.2), omega (arith, b, n.ensures.2), h.3, h.4)
 
 pub returns : goal.returns
 returns c =
     let a = c.args in
     λ j q.
     let k = next-number a.e j q in
-    let m = c.tape_length-m.ensures.1 a.keys.now a.layers.now a.constants.now j q in
-    let n = c.tape_length-n.ensures.1 a.keys.now a.layers.now a.constants.now (next j) k in
+    let m = c.tape_length-m.ensures.1 a.tables.now.keys.now a.tables.now.layers.now a.tables.now.constants.now j q in
+    let n = c.tape_length-n.ensures.1 a.tables.now.keys.now a.tables.now.layers.now a.tables.now.constants.now (next j) k in
     opened_over _ j _ _ _ _ _ _ _ _
-    (take_as _ _ _ _ m (c.party_tape-tape1.ensures a.keys.now a.layers.now a.constants.now j q))
-    (take_as _ _ _ _ n (c.party_tape-tape2.ensures a.keys.now a.layers.now a.constants.now (next j) k))
+    (take_as _ _ _ _ m (c.party_tape-tape1.ensures a.tables.now.keys.now a.tables.now.layers.now a.tables.now.constants.now j q))
+    (take_as _ _ _ _ n (c.party_tape-tape2.ensures a.tables.now.keys.now a.tables.now.layers.now a.tables.now.constants.now (next j) k))
     (c.open_tapes.ensures j q)

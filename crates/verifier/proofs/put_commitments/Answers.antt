@@ -66,11 +66,11 @@ pub returns : goal.returns
 returns c =
     let a = c.args in
     λ u x.
-    put_three a.room.now _ a.e _ _ _ _ a.shown.now
+    put_three a.room.now _ a.e _ _ _ _ a.shown.now.commitment.now
     (c.commit_first-a.ensures u x
-    ∙ ap (λ (s : Bytes). commitment a.p a.seed1.now s (bytes_of (3 * a.p.s * a.p.r) (flat (3 * a.p.s) u)) (bytes_of a.p.n (block_bits a.x.again.first)))
+    ∙ ap (λ (s : Bytes). commitment a.p a.shown.now.seed1.now s (bytes_of (3 * a.p.s * a.p.r) (flat (3 * a.p.s) u)) (bytes_of a.p.n (block_bits a.x.again.first)))
     (take_as _ _ _ _ c.width-w.ensures refl))
     (c.committed-b.ensures
-    ∙ ap (λ (s : Bytes). commitment a.p a.seed2.now s a.transcript.now (bytes_of a.p.n (block_bits a.x.again.second)))
+    ∙ ap (λ (s : Bytes). commitment a.p a.shown.now.seed2.now s a.shown.now.transcript.now (bytes_of a.p.n (block_bits a.x.again.second)))
     (take_as _ _ _ _ c.width-w.ensures refl))
     c.put_commitments.ensures
