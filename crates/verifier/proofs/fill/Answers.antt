@@ -4,12 +4,9 @@ use Rattle.lowmc.specs.Cipher.{cipher}
 use Rattle.shape.proofs.ReadingLaws.{sound}
 use Rattle.views.specs.Input.{verifier_filling}
 use Rattle.parts.proofs.PlacesLaws.{stands-first}
-use Rattle.room.proofs.HeldLaws.{held_none, held_length}
+use Rattle.room.proofs.HeldLaws.{held_none}
 use Rattle.verifier.proofs.FillLaws.{outputs-long, commitments-long, located_at, held_step, held_filled}
 use Rattle.verifier.proofs.fill.Goals as goal
-
-pub start-cursor-requires : goal.start-cursor-requires
-start-cursor-requires c = c.args.tables.now.lent.is_set
 
 pub loop-t-init : goal.loop-t-init
 loop-t-init c =
@@ -22,12 +19,6 @@ locate-here-requires c =
     let a = c.args in
     let h = c.requires in
     (c.args.tables.now.lent.is_set, ((sound a.tables.now.set a.signature.now h.1).exact, (omega (arith, c.loop-t.invariant.0), c.loop-t.invariant.1)))
-
-pub fill_at-requires : goal.fill_at-requires
-fill_at-requires c =
-    let a = c.args in
-    let h = c.requires in
-    (h.0, omega arith, h.1, located_at a.tables.now.set a.signature.now _ _ _ c.loop-t.invariant.0 c.locate-here.ensures, omega (arith, held_length c.args.tables.now.lent.is_set _ _ a.room.now c.loop-t.t c.loop-t.room c.loop-t.invariant.2, h.2))
 
 pub loop-t-preserved : goal.loop-t-preserved
 loop-t-preserved c =
@@ -44,11 +35,6 @@ loop-t-preserved c =
           (outputs-long i C a.public.now a.signature.now l.t b h.1 _ g) (commitments-long i C a.public.now a.signature.now l.t b h.1 _ g)
           l.invariant.2 c.fill_at.ensures,
     )
-
-pub shape_of-room : goal.shape_of-room
-shape_of-room c =
-    let a = c.args in
-    held_length c.args.tables.now.lent.is_set _ _ a.room.now c.loop-t.t c.loop-t.room c.loop-t.invariant.2
 
 pub returns : goal.returns
 unfolding verifier_filling

@@ -10,11 +10,6 @@ use Rattle.verifier.proofs.FillLaws.{value-small, commitment-long, share-long, s
 use borrow.Author.Rules.{rules}
 use Rattle.verifier.proofs.fill_at.Goals as goal
 
-pub overflow_add-end : goal.overflow_add-end
-overflow_add-end c =
-    let h = c.requires in
-    omega (arith, salt_end c.args.tables.now.lent.is_set c.args.signature.now c.args.t h.1 h.2 c.args.here h.3, c.header-from.ensures)
-
 pub slice_bounds-salt-end : goal.slice_bounds-salt-end
 slice_bounds-salt-end c =
     let h = c.requires in

@@ -1,5 +1,5 @@
 -- `verifier::fill_round` meets its contract.
-use mathlib.Core.Path.{sym, ap₂, ◌∙◌}
+use mathlib.Core.Path.{ap₂, ◌∙◌}
 use native.Mathlib.Omega.{arith}
 use Rattle.slices.specs.Slices.{Bytes}
 use Rattle.lowmc.specs.Cipher.{cipher}
@@ -9,7 +9,7 @@ use Rattle.views.specs.Opened.{recomputed_outputs, recomputed_commitments}
 use Rattle.views.proofs.PartiesLaws.{number_of}
 use Rattle.room.specs.Room.{with_round}
 use Rattle.room.proofs.RoomLaws.{sizes}
-use Rattle.verifier.proofs.OpenedLaws.{round_filled, plain_as, plain_small, cipher_as, cipher-long, cipher-small}
+use Rattle.verifier.proofs.OpenedLaws.{round_filled, plain_as, plain_small, cipher_as, cipher-small}
 use borrow.Author.Rules.{rules}
 use Rattle.verifier.proofs.fill_round.Goals as goal
 
@@ -18,9 +18,6 @@ open-x-requires c =
     let h = c.requires in
     let i = c.args.tables.now.lent.is_set in
     (omega (arith, h.1, (sizes i).rounds), h.2, plain_small i c.args.public.now _ c.width-w.ensures h.0, h.4, h.5)
-
-pub slice_bounds-put_outputs-end : goal.slice_bounds-put_outputs-end
-slice_bounds-put_outputs-end c = sym (cipher-long c.args.tables.now.lent.is_set c.args.public.now _ c.width-w.ensures c.requires.0)
 
 pub put_outputs-requires : goal.put_outputs-requires
 put_outputs-requires c =

@@ -1,17 +1,10 @@
 -- `verifier::put_commitments` meets its contract.
-use mathlib.Core.Path.{◌≡◌, refl, sym, ap, ◌∙◌}
-use Prim.Native.Nat.{◌*◌}
+use mathlib.Core.Path.{◌≡◌, sym}
 use native.Mathlib.Omega.{arith}
 use lib.ListN.{length}
 use lib.Seq.{length-take-le}
-use Rattle.slices.specs.Slices.{Bytes}
-use Rattle.bits.specs.Bytes.{bytes_of}
-use Rattle.bits.specs.Rows.{flat}
-use Rattle.bits.specs.Words.{block_bits}
-use Rattle.hashing.specs.Hashing.{commitment}
 use Rattle.hashing.proofs.HashingLaws.{digest_fits}
-use Rattle.room.proofs.RoomLaws.{sizes, take_as}
-use Rattle.verifier.proofs.OpenedLaws.{put_three}
+use Rattle.room.proofs.RoomLaws.{sizes}
 use borrow.Author.Rules.{rules}
 use Rattle.verifier.proofs.put_commitments.Goals as goal
 
@@ -61,16 +54,3 @@ put_commitments-requires c =
     let l : length c.commit_first-a.result ≡ 64 = search rules in
     let m : length c.committed-b.result ≡ 64 = search rules in
     (h.0, h.1, h.2, length-take-le _ _ (omega (arith, l, digest_fits h.0)), length-take-le _ _ (omega (arith, m, digest_fits h.0)), h.3)
-
-pub returns : goal.returns
-returns c =
-    let a = c.args in
-    λ u x.
-    put_three a.room.now _ a.e _ _ _ _ a.shown.now.commitment.now
-    (c.commit_first-a.ensures u x
-    ∙ ap (λ (s : Bytes). commitment a.p a.shown.now.seed1.now s (bytes_of (3 * a.p.s * a.p.r) (flat (3 * a.p.s) u)) (bytes_of a.p.n (block_bits a.x.again.first)))
-    (take_as _ _ _ _ c.width-w.ensures refl))
-    (c.committed-b.ensures
-    ∙ ap (λ (s : Bytes). commitment a.p a.shown.now.seed2.now s a.shown.now.transcript.now (bytes_of a.p.n (block_bits a.x.again.second)))
-    (take_as _ _ _ _ c.width-w.ensures refl))
-    c.put_commitments.ensures
