@@ -1,3 +1,4 @@
+pub mod Fits
 pub mod RoomLaws
 pub mod HeldLaws
 pub mod AfterLaws

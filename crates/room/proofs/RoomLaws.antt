@@ -5,7 +5,6 @@ use Prim.Native.Nat.{ℕ, suc, ◌+◌, ◌-◌, ◌*◌, ◌≤◌, ◌<◌}
 use native.Mathlib.Omega.{arith}
 use native.Mathlib.Nat.{mul-le-mul_right, suc-mul, le_of_eq}
 use lib.Dec.{lit≤}
-use borrow.Author.Tests.{eq-eqb, ne_eqb}
 use lib.ListN.{length, take, drop, length-append, length-drop}
 use lib.Seq.{length-take-le, take_at, take_all}
 use Rattle.slices.specs.Slices.{Bytes, put}
@@ -24,9 +23,8 @@ use Rattle.lowmc.specs.Lent.{cipher_of}
 use Rattle.shake.specs.Sponge.{started, absorbed}
 use Rattle.challenge.specs.declared.Filled.{Filled}
 use Rattle.challenge.specs.Filling.{Fills}
-use Rattle.views.specs.Parties.{party_of, from_party, three}
 use Rattle.views.specs.Input.{challenge_input}
-use Rattle.room.specs.Room.{shares_at, commitments_at}
+use Rattle.room.specs.Room.{commitments_at}
 
 -- ---- the numbers of a set
 
@@ -71,19 +69,10 @@ below_last : (t k m : ℕ) → t < k → t * m + m ≤ k * m
 below_last t k m h = let q : suc t * m ≤ k * m = mul-le-mul_right m h in omega (arith, suc-mul t m)
 
 module _ {p : Set} (h : IsSet p) (t : ℕ) (l : t < p.t) where
-  pub shares_end : shares_at p t + 3 * w p ≤ p.t * (3 * w p)
-  shares_end = below_last t p.t (3 * w p) l
-
-  pub commitments_end : commitments_at p t + 3 * p.digest ≤ room_length p
+  commitments_end : commitments_at p t + 3 * p.digest ≤ room_length p
   commitments_end = omega (arith, below_last t p.t (3 * p.digest) l, (sizes h).room)
 
-  pub shares_in : shares_at p t + 3 * w p ≤ room_length p
-  shares_in = omega (arith, shares_end, (sizes h).room)
-
   -- by the code's width m
-  pub shares_fit : (m : ℕ) → m ≡ w p → t * (3 * m) + m + m + m ≤ room_length p
-  shares_fit m e = rw e (omega (arith, shares_in))
-
   pub commitments_fit : (m : ℕ) → m ≡ w p → p.t * (3 * m) + t * (3 * p.digest) + p.digest + p.digest + p.digest ≤ room_length p
   commitments_fit m e = rw e (omega (arith, commitments_end))
 
@@ -99,20 +88,6 @@ three-put s at a b c h {s1} {s2} {s3} e1 e2 e3 =
     e3 ∙ (ap (λ (x : Bytes). put x (at + length a + length b) c) f2
     ∙ (ap (λ (n : ℕ). put (put s at (a ++ b)) n c) g3
     ∙ (put-put s at (a ++ b) c (omega arith) ∙ ap (put s at) (append_assoc a b c))))
-
-pub party_zero : (e : ℕ) → e ≡ 0 → party_of e ≡ party0
-party_zero e h = rw (eq-eqb e 0 h) refl
-
-pub party_one : (e : ℕ) → (e ≡ 0 → ⊥) → e ≡ 1 → party_of e ≡ party1
-party_one e g h = rw (ne_eqb e 0 g, eq-eqb e 1 h) refl
-
-pub party_two : (e : ℕ) → (e ≡ 0 → ⊥) → (e ≡ 1 → ⊥) → party_of e ≡ party2
-party_two e g h = rw (ne_eqb e 0 g, ne_eqb e 1 h) refl
-
--- three in their places, once the party is known
-pub by_party_lem : (s : Bytes) (at e : ℕ) (j : Party) (x y z : Bytes) {r : Bytes} → party_of e ≡ j → r ≡ put s at (three (from_party j x y z))
-    → r ≡ put s at (three (from_party (party_of e) x y z))
-by_party_lem s at e j x y z q h = h ∙ ap (λ (k : Party). put s at (three (from_party k x y z))) (sym q)
 
 -- ---- the start of an array
 
@@ -134,9 +109,6 @@ take_as l n m vs e h = ap (λ (k : ℕ). take k l) e ∙ h
 pub take-small : (l : Bytes) (m n : ℕ) → m ≤ length l → m ≤ n → length (take m l) ≤ n
 take-small l m n h g = omega (arith, length-take-le m l h)
 
-pub take_below : (l : Bytes) (m n : ℕ) → m ≤ length l → m < n → length (take m l) < n
-take_below l m n h g = omega (arith, length-take-le m l h)
-
 -- the rest of a slice, by the code's number x
 pub rest_as : (l : Bytes) (x n : ℕ) → x ≡ n → take (length l - x) (drop x l) ≡ drop n l
 rest_as l x n e = take_all (length l - x) (drop x l) (le_of_eq (length-drop x l)) ∙ ap (λ (k : ℕ). drop k l) e
@@ -144,15 +116,6 @@ rest_as l x n e = take_all (length l - x) (drop x l) (le_of_eq (length-drop x l)
 -- a part that holds n bytes is n bytes long
 pub part-long : (l vs : Bytes) (n m : ℕ) → m ≡ n → take n l ≡ vs → length vs ≡ n → length (take m l) ≡ m
 part-long l vs n m e h g = ap length (take_as l n m vs e h) ∙ (g ∙ sym e)
-
--- three output shares put in the room
-pub outputs-put : {p : Set} → IsSet p → (t e m : ℕ) (room a b c : Bytes) (x y z : Bits) → m ≡ w p
-    → take (w p) a ≡ bytes_of p.n x → take (w p) b ≡ bytes_of p.n y → take (w p) c ≡ bytes_of p.n z
-    → {r : Bytes} → r ≡ put room (t * (3 * m)) (three (from_party (party_of e) (take m a) (take m b) (take m c)))
-    → r ≡ put room (shares_at p t) (three (from_party (party_of e) (bytes_of p.n x) (bytes_of p.n y) (bytes_of p.n z)))
-outputs-put {p} h t e m room a b c x y z q ea eb ec g =
-    g ∙ λ i. put room (t * (3 * q i))
-    (three (from_party (party_of e) (take_as a (w p) m _ q ea i) (take_as b (w p) m _ q eb i) (take_as c (w p) m _ q ec i)))
 
 -- ---- the challenge
 

@@ -1,5 +1,5 @@
 // What signing and verifying share: the bytes of a party, and the working room that a round's output shares and commitments go into.
-#![tactic(auto)]
+#![tactic(auto, using(crate::proofs::Fits::fits))]
 
 ghost use Rattle.std.specs.Prelude.{◌≡◌, ◌++◌, ◌+◌, ◌*◌, ◌≤◌, ◌<◌, length, take};
 ghost use Rattle.slices.specs.Slices.{Bytes, put};
@@ -29,13 +29,11 @@ pub fn tape_length(p: Set, j: usize) -> usize
     ensures { (result ≤ 175) × ((keys layers constants : Bytes) (k : Party) → j ≡ party_number k → result ≡ tape_length (cipher_of p keys layers constants) k) × (w p ≤ result) }
 {
     let m = p.transcript();
-    if j == 2 {
-        return m;
-    }
-    p.width() + m
+    if j == 2 { m } else { p.width() + m }
 }
 
-// The tape of party j in round t, at the start of an array.
+// The tape of party j in round t, at the start of an array. Arrays here are as long as the greatest set asks for: how many of
+// their bytes are used follows from the set, and no heap is used.
 pub fn party_tape(p: Set, seed: &[u8], salt: &[u8], t: usize, j: usize) -> [u8; 175]
     requires { IsSet p × (t < 65536) × (j < 3) }
     ensures { (keys layers constants : Bytes) (k : Party) → j ≡ party_number k
@@ -65,15 +63,11 @@ pub fn put_by_party(e: u8, x: &[u8], y: &[u8], z: &[u8], d: &mut [u8], at: usize
     requires { at + length x.now + length y.now + length z.now ≤ length d.old }
     ensures { d.new ≡ put d.old at (three (from_party (party_of e) x.now y.now z.now)) }
 {
-    if e == 0 {
-        put_three(x, y, z, d, at);
-        return;
+    match e {
+        0 => put_three(x, y, z, d, at),
+        1 => put_three(z, x, y, d, at),
+        _ => put_three(y, z, x, d, at),
     }
-    if e == 1 {
-        put_three(z, x, y, d, at);
-        return;
-    }
-    put_three(y, z, x, d, at);
 }
 
 // The n bits of a block as bytes, at the start of an array.

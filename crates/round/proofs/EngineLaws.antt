@@ -2,20 +2,20 @@
 use mathlib.Core.Path.{◌≡◌, ap, ◌∙◌, subst⁻¹}
 use mathlib.Core.Logic.{⊎_elim}
 use mathlib.Core.Bool.{false}
-use mathlib.Core.List.{List, [], ◌∷◌}
-use Prim.Native.Nat.{ℕ, ◌+◌, ◌*◌, ◌≤◌, ◌<◌}
+use mathlib.Core.List.{List}
+use Prim.Native.Nat.{ℕ, ◌+◌, ◌≤◌, ◌<◌}
 use native.Mathlib.Omega.{arith}
-use lib.ListN.{length, get_or, set, replicate, length-set}
+use lib.ListN.{length, get_or, set, replicate}
 use lib.Seq.{get_or-set_same, get_or-set_other}
 use Rattle.bits.specs.Bits.{Bits, up_to}
-use Rattle.bits.specs.Words.{word_bits, list_bits}
+use Rattle.bits.specs.Words.{word_bits}
 use Rattle.bits.specs.Rows.{Rows, rows_of}
 use Rattle.bits.proofs.BitsLaws.{up_to_out}
 use Rattle.bits.proofs.RowsLaws.{get_d_zeros}
 use Rattle.bits.proofs.NumberLaws.{below}
-use Rattle.bits.proofs.WordsLaws.{zero_bits, list_past, four_words, holds_at}
+use Rattle.bits.proofs.WordsLaws.{zero_bits}
 use Rattle.circuit.specs.Round.{Party, party0, party1, party2}
-use Rattle.round.specs.Engine.{Written, state_of}
+use Rattle.round.specs.Engine.{Written}
 
 -- what holds of each party
 pub three : (P : Party → Type 0) → P party0 → P party1 → P party2 → (j : Party) → P j
@@ -71,62 +71,6 @@ pub written_cong : (m n : ℕ) (t u : Rows) (ws : List ℕ) → ((i : ℕ) → i
 written_cong m n t u ws h w = record { rowed = w.rowed; rows = λ i l. w.rows i l ∙ ap (up_to m) (h i l) }
 
 -- ---- states
-
--- a block is its four words
-pub four_of : (ws : List ℕ) → length ws ≡ 4 → list_bits (get_or ws 0 0 ∷ get_or ws 1 0 ∷ get_or ws 2 0 ∷ get_or ws 3 0 ∷ []) ≡ list_bits ws
-four_of ws h = four_words (list_bits ws) _ _ _ _ (holds_at ws 0) (holds_at ws 1) (holds_at ws 2) (holds_at ws 3) (λ i l. list_past ws i (omega arith))
-
--- four words put as state i, one after the other
-module _ (ws : List ℕ) (i u v x y : ℕ) where
-  abbrev one : List ℕ
-  one = set ws (4 * i) u
-
-  abbrev two : List ℕ
-  two = set one (4 * i + 1) v
-
-  abbrev most : List ℕ
-  most = set two (4 * i + 2) x
-
-  abbrev all : List ℕ
-  all = set most (4 * i + 3) y
-
-  -- a place that none of them has
-  away : (k : ℕ) → (k ≡ 4 * i → ⊥) → (k ≡ 4 * i + 1 → ⊥) → (k ≡ 4 * i + 2 → ⊥) → (k ≡ 4 * i + 3 → ⊥) → get_or all k 0 ≡ get_or ws k 0
-  away k a b c d =
-      get_or-set_other most (4 * i + 3) k y 0 d
-      ∙ (get_or-set_other two (4 * i + 2) k x 0 c ∙ (get_or-set_other one (4 * i + 1) k v 0 b ∙ get_or-set_other ws (4 * i) k u 0 a))
-
-  pub put_other : (k : ℕ) → (k ≡ i → ⊥) → state_of all k ≡ state_of ws k
-  put_other k n =
-      let ea = away (4 * k) (λ e. n (omega arith)) (λ e. omega arith) (λ e. omega arith) (λ e. omega arith) in
-      let eb = away (4 * k + 1) (λ e. omega arith) (λ e. n (omega arith)) (λ e. omega arith) (λ e. omega arith) in
-      let ec = away (4 * k + 2) (λ e. omega arith) (λ e. omega arith) (λ e. n (omega arith)) (λ e. omega arith) in
-      let ed = away (4 * k + 3) (λ e. omega arith) (λ e. omega arith) (λ e. omega arith) (λ e. n (omega arith)) in
-      λ z. list_bits (ea z ∷ eb z ∷ ec z ∷ ed z ∷ [])
-
-  module _ (l : 4 * i + 4 ≤ length ws) where
-    first : get_or all (4 * i) 0 ≡ u
-    first =
-        get_or-set_other most (4 * i + 3) (4 * i) y 0 (λ e. omega arith)
-        ∙ (get_or-set_other two (4 * i + 2) (4 * i) x 0 (λ e. omega arith)
-        ∙ (get_or-set_other one (4 * i + 1) (4 * i) v 0 (λ e. omega arith) ∙ get_or-set_same ws (4 * i) u 0 (omega arith)))
-
-    second : get_or all (4 * i + 1) 0 ≡ v
-    second =
-        get_or-set_other most (4 * i + 3) (4 * i + 1) y 0 (λ e. omega arith)
-        ∙ (get_or-set_other two (4 * i + 2) (4 * i + 1) x 0 (λ e. omega arith)
-        ∙ get_or-set_same one (4 * i + 1) v 0 (omega (arith, length-set ws (4 * i) u)))
-
-    third : get_or all (4 * i + 2) 0 ≡ x
-    third =
-        get_or-set_other most (4 * i + 3) (4 * i + 2) y 0 (λ e. omega arith)
-        ∙ get_or-set_same two (4 * i + 2) x 0 (omega (arith, length-set ws (4 * i) u, length-set one (4 * i + 1) v))
-
-    fourth : get_or all (4 * i + 3) 0 ≡ y
-    fourth = get_or-set_same most (4 * i + 3) y 0 (omega (arith, length-set ws (4 * i) u, length-set one (4 * i + 1) v, length-set two (4 * i + 2) x))
-
-    pub put_same : state_of all i ≡ list_bits (u ∷ v ∷ x ∷ y ∷ [])
-    put_same = λ z. list_bits (first z ∷ second z ∷ third z ∷ fourth z ∷ [])
 
 -- the first state, and one state more
 pub one_state : (f s : ℕ → Bits) → f 0 ≡ s 0 → (k : ℕ) → k ≤ 0 → f k ≡ s k

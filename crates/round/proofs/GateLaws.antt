@@ -1,6 +1,6 @@
 -- Laws of the gates of a layer on words.
-use mathlib.Core.Path.{◌≡◌, refl, ap, ◌∙◌}
-use mathlib.Core.Bool.{Bool, true, false, ◌&&◌, cond}
+use mathlib.Core.Path.{◌≡◌, ap, ◌∙◌}
+use mathlib.Core.Bool.{Bool, ◌&&◌, cond}
 use Prim.Native.Nat.{ℕ, ◌+◌, ◌*◌, ◌≤◌, ◌<◌}
 use native.Mathlib.Omega.{arith}
 use lib.Bits.{bit_xor, bit_and}
@@ -44,15 +44,7 @@ row_of m x y t u a b c d r l ea eb ec ed er = er ∙ up_to_cong m _ (gates x y (
         holds_xor _ _ _ _ (holds_xor _ _ _ _ (holds_xor _ _ _ _ (holds_xor _ _ _ _ p q) s) (holds_self t)) (holds_self u) i (omega arith)
         ∙ (xor_five _ _ _ _ _ ∙ (λ k. (la k && rd k) ⊻ (lc k && rb k) ⊻ (la k && rb k) ⊻ word_bits t i ⊻ word_bits u i))
 
--- a public block goes into a share, or does not
-pub into_yes : (b : Bool) (c : Bits) → b ≡ true → c ≡ cond b c zeros
-into_yes true c e = refl
-into_yes false c e = let z : ◌≡◌ {A = ℕ} 0 1 = ap (λ (x : Bool). cond x 1 0) e in absurd (omega arith)
-
-pub into_no : (b : Bool) (c : Bits) → b ≡ false → zeros ≡ cond b c zeros
-into_no false c e = refl
-into_no true c e = let z : ◌≡◌ {A = ℕ} 1 0 = ap (λ (x : Bool). cond x 1 0) e in absurd (omega arith)
-
+-- a public block that goes into a share, or does not
 pub into_of : (b : Bool) (c c' r : Bits) → c ≡ c' → r ≡ cond b c zeros → r ≡ cond b c' zeros
 into_of b c c' r e h = h ∙ ap (λ (x : Bits). cond b x zeros) e
 

@@ -5,11 +5,11 @@ use Prim.Native.Nat.{ℕ, ◌+◌, ◌*◌, ◌≤◌, ◌<◌}
 use native.Mathlib.Omega.{arith}
 use native.Mathlib.Numerals.{add-one}
 use lib.ListN.{length, set, replicate}
-use Rattle.bits.specs.Bits.{Bits, ◌⊕◌, zeros, up_to}
+use Rattle.bits.specs.Bits.{Bits, ◌⊕◌, up_to}
 use Rattle.bits.specs.Words.{word_bits}
 use Rattle.bits.specs.Rows.{Rows}
 use Rattle.bits.proofs.BitsLaws.{⊕-rules}
-use Rattle.circuit.specs.Lowmc.{Cipher, start, state_after}
+use Rattle.circuit.specs.Lowmc.{Cipher, state_after}
 use Rattle.circuit.specs.Round.{Party, party0, party1, party2, next, gates, advance, into_share, state_share, transcript, output_share, by_party}
 use Rattle.circuit.specs.RoundTheorems.{xor3}
 use Rattle.circuit.proofs.RoundLaws.{signer_follows}
@@ -22,27 +22,6 @@ use Rattle.round.proofs.EngineLaws.{three, written_none, written-more}
 -- what two shares lack of the whole is the third
 third_of : (w a b c a' b' z : Bits) → a ⊕ b ⊕ c ≡ w → a' ≡ a → b' ≡ b → z ≡ w ⊕ a' ⊕ b' → z ≡ c
 third_of w a b c a' b' z e ea eb ez = ez ∙ ((λ k. sym e k ⊕ ea k ⊕ eb k) ∙ simp ⊕-rules)
-
--- the three states y, where two parties' shares u and v have the states a and b
-module _ (C : Cipher) (x y : Party → Bits) (w u v a b : Bits) (eu : u ≡ x party0) (ev : v ≡ x party1)
-    (ea : y party0 ≡ a) (eb : y party1 ≡ b) (ec : y party2 ≡ w ⊕ a ⊕ b) where
-  lacking : y party2 ≡ w ⊕ y party0 ⊕ y party1
-  lacking = ec ∙ (λ k. w ⊕ sym ea k ⊕ sym eb k)
-
-  pub begun_of : (p : Bits) → a ≡ start C u p → b ≡ start C v zeros → Begun C p x w y
-  begun_of p ha hb = record {
-    first = ea ∙ ha ∙ (λ k. start C (eu k) p);
-    second = eb ∙ hb ∙ (λ k. start C (ev k) zeros);
-    third = lacking;
-  }
-
-  pub stepped_of : (i : ℕ) (s g : Party → Bits) (m n : Bits) → m ≡ s party0 → n ≡ s party1
-      → a ≡ advance C i u (C.roundconstant i) m (g party0) → b ≡ advance C i v zeros n (g party1) → Stepped C i x s g w y
-  stepped_of i s g m n em en ha hb = record {
-    first = ea ∙ ha ∙ (λ k. advance C i (eu k) (C.roundconstant i) (em k) (g party0));
-    second = eb ∙ hb ∙ (λ k. advance C i (ev k) zeros (en k) (g party1));
-    third = lacking;
-  }
 
 -- i rounds are done: s are the states, a, b, c the words of the transcripts
 pub record Done (C : Cipher) (p : Bits) (x : Party → Bits) (t : Party → Rows) (i : ℕ) (s : Party → Bits) (a b c : List ℕ) : Type 0 where

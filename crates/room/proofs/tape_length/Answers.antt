@@ -7,10 +7,7 @@ use Rattle.room.proofs.tape_length.Goals as goal
 pub returns-then-j-eq2 : goal.returns-then-j-eq2
 returns-then-j-eq2 c = (omega (arith, (sizes c.requires).transcript, c.transcript-m.ensures), tape_short c.args.p c.args.j _ (search rules) c.transcript-m.ensures, omega (arith, (sizes c.requires).narrower, c.transcript-m.ensures))
 
-pub overflow_add-result : goal.overflow_add-result
-overflow_add-result c = omega (arith, (sizes c.requires).transcript, (sizes c.requires).width, c.transcript-m.ensures, c.width.ensures)
-
-pub returns : goal.returns
-returns c =
+pub returns-else-j-eq2 : goal.returns-else-j-eq2
+returns-else-j-eq2 c =
     let h = sizes c.requires in
     (omega (arith, h.transcript, h.width, c.transcript-m.ensures, c.width.ensures), tape-long c.args.p c.args.j _ _ (search rules) c.width.ensures c.transcript-m.ensures, omega (arith, c.width.ensures))

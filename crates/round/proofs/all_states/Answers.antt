@@ -1,5 +1,4 @@
 -- `round::all_states` meets its contract.
-use native.Mathlib.Omega.{arith}
 use mathlib.Core.Path.{◌∙◌}
 use Rattle.sets.specs.declared.Set.{Set}
 use Rattle.sets.proofs.Each.{most}
@@ -27,6 +26,3 @@ loop-i-preserved c =
       state = s;
       traced = more_states l.i _ _ _ (p.0 ∙ s) p.1 l.invariant.traced;
     }
-
-pub returns : goal.returns
-returns c = λ k b. c.loop-i.invariant.traced k (omega (arith, b, c.loop-i-test.false))

@@ -6,12 +6,6 @@ use Rattle.lowmc.proofs.LentLaws.{in_word}
 use Rattle.round.proofs.GateLaws.{row_of}
 use Rattle.round.proofs.gate_row.Goals as goal
 
-pub overflow_mul-p : goal.overflow_mul-p
-overflow_mul-p c = let h = in_word c.requires in omega (arith, h.fits)
-
-pub top-requires : goal.top-requires
-top-requires c = let h = in_word c.requires in omega (arith, h.some, h.fits)
-
 pub returns : goal.returns
 returns c =
     let a = c.args in
