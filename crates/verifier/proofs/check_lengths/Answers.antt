@@ -1,9 +1,9 @@
--- `verifier::refused` meets its contract.
+-- `verifier::check_lengths` meets its contract.
 use mathlib.Core.Path.{sym, ◌∙◌}
 use Rattle.answers.proofs.AnswersLaws.{first_table, first_key, first-message, first-limit, first-room, first-none}
 use Rattle.answers.proofs.ConditionsLaws.{other-true, other-false, short_true, short_false}
 use Rattle.verifier.specs.Verify.{length_checks}
-use Rattle.verifier.proofs.refused.Goals as goal
+use Rattle.verifier.proofs.check_lengths.Goals as goal
 
 pub returns-then-tables_other : goal.returns-then-tables_other
 unfolding length_checks
