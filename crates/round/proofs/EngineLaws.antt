@@ -16,7 +16,8 @@ use Rattle.bits.proofs.RowsLaws.{get_d_zeros}
 use Rattle.bits.proofs.NumberLaws.{below}
 use Rattle.bits.proofs.WordsLaws.{zero_bits}
 use Rattle.circuit.specs.Round.{Party, party0, party1, party2}
-use Rattle.round.specs.Engine.{Written, at}
+use Rattle.lowmc.specs.Vectors.{at}
+use Rattle.round.specs.Engine.{Written}
 
 -- what holds of each party
 pub three : (P : Party → Type 0) → P party0 → P party1 → P party2 → (j : Party) → P j

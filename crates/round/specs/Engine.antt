@@ -9,12 +9,9 @@ use Rattle.bits.specs.declared.Strip.{Strip}
 use Rattle.circuit.specs.Lowmc.{Cipher, state_after}
 use Rattle.circuit.specs.Round.{Party, transcript, output_share, Opening, transcript₁, output₁, output₂}
 use Rattle.circuit.specs.Tapes.{party_number}
+use Rattle.lowmc.specs.Vectors.{at}
 use Rattle.round.specs.declared.View.{View}
 use Rattle.round.specs.declared.Again.{Again}
-
--- block k of an array
-abbrev pub at : List Block → ℕ → Block
-at v k = get_or v k (record { words = [] })
 
 -- of three blocks by party, the bits of a party's
 abbrev pub share_in : List Block → Party → Bits

@@ -2,7 +2,7 @@
 // A row of gates, of a tape or of a transcript, stands at the top of a word. No branch and no index depends on a secret.
 #![tactic(auto)]
 
-ghost use Rattle.std.specs.Prelude.{◌≡◌, cond, ℕ, ◌*◌, ◌≤◌, ◌<◌, length, set};
+ghost use Rattle.std.specs.Prelude.{◌≡◌, cond, ℕ, ◌*◌, ◌≤◌, ◌<◌, false, get_or, length, set};
 ghost use Rattle.slices.specs.Slices.{Bytes};
 ghost use Rattle.bits.specs.Bits.{◌⊕◌, zeros, up_to, from};
 ghost use Rattle.bits.specs.Bytes.{bits_of, bytes_of};
@@ -17,12 +17,13 @@ ghost use Rattle.circuit.specs.RoundTheorems.{xor3};
 ghost use Rattle.circuit.specs.Tapes.{party_number};
 ghost use Rattle.lowmc.specs.Lent.{cipher_of};
 ghost use Rattle.lowmc.specs.Cipher.{cipher};
+ghost use Rattle.lowmc.specs.Vectors.{at};
 ghost use Rattle.round.specs.Engine.{share_in, row_of, Written, opening_on_words, RecomputedAs, Traced, said_in, word, Simulated};
 ghost use Rattle.round.specs.Inner.{Begun, Stepped};
 ghost use Rattle.round.specs.Inputs.{input_share, Taped, tapes_of, opening_of};
 
 use bits::{Block, Strip};
-use lowmc::{Pair, Tables};
+use lowmc::Tables;
 use sets::Set;
 
 // The first m places of a word.
@@ -69,54 +70,46 @@ fn public_part(into: bool, c: Block) -> Block
 }
 
 // Such parts of a public block for two shares.
-fn public_parts(in1: bool, in2: bool, c: Block) -> Pair
-    ensures { (block_bits result.a ≡ cond in1 (block_bits c) zeros) × (block_bits result.b ≡ cond in2 (block_bits c) zeros) }
+fn public_parts(into: [bool; 2], c: Block) -> [Block; 2]
+    ensures { (k : ℕ) → k < 2 → block_bits (at result k) ≡ cond (get_or into k false) (block_bits c) zeros }
 {
-    let a = public_part(in1, c);
-    let b = public_part(in2, c);
-    Pair { a, b }
+    [public_part(into[0], c), public_part(into[1], c)]
 }
 
 // Two shares of the state before the first round. The matrix is read once for both.
-fn start_shares(tables: &Tables, shares: Pair, in1: bool, in2: bool, plain: Block) -> Pair
-    ensures { (block_bits result.a ≡ start (cipher tables.now) (block_bits shares.a) (cond in1 (block_bits plain) zeros))
-        × (block_bits result.b ≡ start (cipher tables.now) (block_bits shares.b) (cond in2 (block_bits plain) zeros)) }
+fn start_shares(tables: &Tables, shares: [Block; 2], into: [bool; 2], plain: Block) -> [Block; 2]
+    ensures { (k : ℕ) → k < 2 → block_bits (at result k)
+        ≡ start (cipher tables.now) (block_bits (at shares k)) (cond (get_or into k false) (block_bits plain) zeros) }
 {
-    tables.start_both(shares, public_parts(in1, in2, plain))
+    tables.start(shares, public_parts(into, plain))
 }
 
-// The layer of S-boxes on two shares: t and u are those parties' rows of gates.
-fn substitute(p: Set, x: Pair, t: u64, u: u64) -> Pair
+// The layer of S-boxes on two shares, by those parties' rows of gates.
+fn substitute(p: Set, x: [Block; 2], g: [u64; 2]) -> [Block; 2]
     requires { IsSet p }
-    ensures { (block_bits result.a ≡ sboxes_by p.s (block_bits x.a) (word_bits t))
-        × (block_bits result.b ≡ sboxes_by p.s (block_bits x.b) (word_bits u)) }
+    ensures { (k : ℕ) → k < 2 → block_bits (at result k) ≡ sboxes_by p.s (block_bits (at x k)) (word_bits (get_or g k 0)) }
 {
-    let a = x.a;
-    let b = x.b;
-    let c = lowmc::sboxes_by(p, a, t);
-    let d = lowmc::sboxes_by(p, b, u);
-    Pair { a: c, b: d }
+    [
+        lowmc::sboxes_by(p, x[0], g[0]),
+        lowmc::sboxes_by(p, x[1], g[1]),
+    ]
 }
 
-// Round i of LowMC on two shares: t and u are those parties' rows of gates.
+// Round i of LowMC on two shares with the states x, by those parties' rows of gates.
 fn advance_shares(
     tables: &Tables,
     i: usize,
-    shares: Pair,
-    in1: bool,
-    in2: bool,
-    x: Pair,
-    t: u64,
-    u: u64,
-) -> Pair
+    shares: [Block; 2],
+    into: [bool; 2],
+    x: [Block; 2],
+    g: [u64; 2],
+) -> [Block; 2]
     requires { i < tables.now.set.r }
-    ensures { (block_bits result.a ≡ advance (cipher tables.now) i (block_bits shares.a)
-        (cond in1 ((cipher tables.now).roundconstant i) zeros) (block_bits x.a) (word_bits t))
-        × (block_bits result.b ≡ advance (cipher tables.now) i (block_bits shares.b)
-        (cond in2 ((cipher tables.now).roundconstant i) zeros) (block_bits x.b) (word_bits u)) }
+    ensures { (k : ℕ) → k < 2 → block_bits (at result k) ≡ advance (cipher tables.now) i (block_bits (at shares k))
+        (cond (get_or into k false) ((cipher tables.now).roundconstant i) zeros) (block_bits (at x k)) (word_bits (get_or g k 0)) }
 {
-    let c = public_parts(in1, in2, tables.constant(i));
-    tables.turn_both(i, shares, c, substitute(tables.set, x, t, u))
+    let c = public_parts(into, tables.constant(i));
+    tables.turn(i, shares, c, substitute(tables.set, x, g))
 }
 
 // What a recomputation leaves: the output shares of the two opened parties, and the first one's transcript.
@@ -141,24 +134,17 @@ pub fn recompute(
     ensures { (j : Party) → e ≡ party_number j → RecomputedAs (cipher tables.now) (block_bits plain) j
         (opening_on_words share1 share2 tape1 tape2 given) result }
 {
-    let in1 = e == 0;
-    let in2 = e == 2;
-    let shares = Pair {
-        a: share1,
-        b: share2,
-    };
-    let mut s = start_shares(tables, shares, in1, in2, plain);
+    let into = [e == 0, e == 2];
+    let shares = [share1, share2];
+    let mut s = start_shares(tables, shares, into, plain);
     let mut words = [0u64; 40];
     for i in 0..tables.set.r {
-        let x = s.a;
-        let y = s.b;
-        let g = gate_row(tables.set, x, y, tape1.words[i], tape2.words[i]);
+        let g = gate_row(tables.set, s[0], s[1], tape1.words[i], tape2.words[i]);
         words[i] = g;
-        let h = given.words[i];
-        s = advance_shares(tables, i, shares, in1, in2, s, g, h);
+        let next = advance_shares(tables, i, shares, into, s, [g, given.words[i]]);
+        s = next;
     }
-    let first = s.a;
-    let second = s.b;
+    let [first, second] = s;
     Again {
         first,
         second,
@@ -170,7 +156,7 @@ pub fn recompute(
 pub fn all_states(tables: &Tables, key: Block, block: Block, states: &mut [Block; 40])
     ensures { Traced (cipher tables.now) (block_bits key) (block_bits block) states.new }
 {
-    let mut x = tables.start(key, block);
+    let [mut x] = tables.start([key], [block]);
     states[0] = x;
     for i in 0..tables.set.r {
         x = tables.step(i, key, x);
@@ -178,20 +164,12 @@ pub fn all_states(tables: &Tables, key: Block, block: Block, states: &mut [Block
     }
 }
 
-// The blocks of the first two parties.
-fn first_two(s: [Block; 3]) -> Pair
-    ensures { (block_bits result.a ≡ share_in s party0) × (block_bits result.b ≡ share_in s party1) }
-{
-    Pair { a: s[0], b: s[1] }
-}
-
 // The states of two parties, and the third's: what they lack of the encryption's.
-fn with_third(x: Pair, whole: Block) -> [Block; 3]
-    ensures { (share_in result party0 ≡ block_bits x.a) × (share_in result party1 ≡ block_bits x.b)
-        × (share_in result party2 ≡ block_bits whole ⊕ block_bits x.a ⊕ block_bits x.b) }
+fn with_third(x: [Block; 2], whole: Block) -> [Block; 3]
+    ensures { (share_in result party0 ≡ block_bits (at x 0)) × (share_in result party1 ≡ block_bits (at x 1))
+        × (share_in result party2 ≡ block_bits whole ⊕ block_bits (at x 0) ⊕ block_bits (at x 1)) }
 {
-    let a = x.a;
-    let b = x.b;
+    let [a, b] = x;
     [a, b, whole.xor(a.xor(b))]
 }
 
@@ -199,8 +177,7 @@ fn with_third(x: Pair, whole: Block) -> [Block; 3]
 fn begin(tables: &Tables, x: [Block; 3], plain: Block, whole: Block) -> [Block; 3]
     ensures { Begun (cipher tables.now) (block_bits plain) (share_in x) (block_bits whole) (share_in result) }
 {
-    let a = first_two(x);
-    let y = start_shares(tables, a, true, false, plain);
+    let y = start_shares(tables, [x[0], x[1]], [true, false], plain);
     with_third(y, whole)
 }
 
@@ -216,9 +193,14 @@ fn step(
     requires { i < tables.now.set.r }
     ensures { Stepped (cipher tables.now) i (share_in x) (share_in s) (row_of g) (block_bits whole) (share_in result) }
 {
-    let a = first_two(x);
-    let b = first_two(s);
-    let y = advance_shares(tables, i, a, true, false, b, g[0], g[1]);
+    let y = advance_shares(
+        tables,
+        i,
+        [x[0], x[1]],
+        [true, false],
+        [s[0], s[1]],
+        [g[0], g[1]],
+    );
     with_third(y, whole)
 }
 

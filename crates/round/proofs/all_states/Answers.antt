@@ -10,7 +10,7 @@ use Rattle.round.proofs.all_states.Goals as goal
 
 pub loop-i-init : goal.loop-i-init
 loop-i-init c =
-    let s = state-none _ _ _ _ c.start-x.ensures in
+    let s = state-none _ _ _ _ (c.start.ensures 0 (omega arith)) in
     record {
       rounds = most (λ (q : Set). q.r) 38 tt tt tt c.args.tables.now.lent.is_set;
       size = simp length-set c.told-states;

@@ -5,7 +5,7 @@ use lib.ListN.{length}
 use Rattle.bits.specs.Words.{block_bits}
 use Rattle.circuit.specs.Lowmc.{state_after}
 use Rattle.lowmc.specs.Cipher.{cipher}
-use Rattle.round.specs.Engine.{at}
+use Rattle.lowmc.specs.Vectors.{at}
 use Rattle.round.proofs.all_states.Given as goal
 
 abbrev pub invariant-loop-i : goal.invariant-loop-i
