@@ -50,7 +50,13 @@ impl Tables<'_> {
     }
 
     // What follows the S-boxes of a round, y, for each of N keys, with a block c of its own: Lmatrix[i]·y, c, and Kmatrix[i+1]·key.
-    pub fn turn<const N: usize>(&self, i: usize, key: [Block; N], c: [Block; N], y: [Block; N]) -> [Block; N]
+    pub fn turn<const N: usize>(
+        &self,
+        i: usize,
+        key: [Block; N],
+        c: [Block; N],
+        y: [Block; N],
+    ) -> [Block; N]
         requires { i < self.now.set.r }
         ensures { (k : ℕ) → k < N → block_bits (at result k) ≡ product self.now.set.n ((cipher self.now).Lmatrix i) (block_bits (at y.entry k))
             ⊕ block_bits (at c.entry k) ⊕ product self.now.set.n ((cipher self.now).Kmatrix (i + 1)) (block_bits (at key.entry k)) }

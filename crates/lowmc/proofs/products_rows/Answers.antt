@@ -23,7 +23,7 @@ loop-k-preserved g c =
     let x = block_bits (at a.v k) in
     set_more _ _ _ _ _ c.loop-k.invariant l
     (λ e. four_words (product n M x) _ _ _ _ (c.product_words-a.ensures k l) (c.product_words-b.ensures k l) (c.product_words-c.ensures k l)
-        (c.product_words-d.ensures k l) (λ i h. product_past n M x i (omega arith)))
+    (c.product_words-d.ensures k l) (λ i h. product_past n M x i (omega arith)))
 
 pub returns : goal.returns
 returns g c k l = c.loop-k.invariant.done k (omega arith)

@@ -1,7 +1,7 @@
 -- `lowmc::with_row` meets its contract.
-use mathlib.Core.Path.{◌≡◌, ap₂}
+use mathlib.Core.Path.{ap₂}
 use native.Mathlib.Omega.{arith}
-use Prim.Native.Nat.{ℕ, ◌+◌, ◌*◌, ◌^◌, ◌≤◌, ◌<◌}
+use Prim.Native.Nat.{ℕ, ◌+◌, ◌*◌}
 use Rattle.bits.proofs.NumberLaws.{digit_le}
 use Rattle.lowmc.proofs.VectorsLaws.{set_none, set_more}
 use Rattle.lowmc.proofs.with_row.Goals as goal
