@@ -1,57 +1,33 @@
 -- Laws of writing a signature's parts: a header byte by byte, and a round's parts one behind the other.
 use mathlib.Core.Path.{◌≡◌, sym, ap, ◌∙◌}
-use mathlib.Core.List.{List, ◌++◌, append_assoc}
-use Prim.Native.Nat.{ℕ, ◌+◌, ◌*◌, ◌≤◌, ◌<◌}
+use mathlib.Core.List.{List, [], ◌∷◌, ◌++◌, append_assoc}
+use Prim.Native.Nat.{ℕ, ◌+◌, ◌*◌, ◌≤◌}
 use native.Mathlib.Omega.{arith}
-use lib.ListN.{length, set, length-append}
+use lib.ListN.{length, length-append}
 use lib.Seq.{take_at, take_all}
-use Rattle.slices.specs.Slices.{Bytes, put, over}
-use Rattle.slices.proofs.SliceLaws.{put-start, put-put, length-put}
-use Rattle.bits.specs.Bits.{Bits, from}
+use Rattle.slices.specs.Slices.{Bytes, put, joined}
+use Rattle.slices.proofs.SliceLaws.{put-put}
+use Rattle.bits.specs.Bits.{Bits, from, up_to}
 use Rattle.bits.specs.Bytes.{value, bytes, bytes_of}
-use Rattle.bits.proofs.BytesLaws.{length-bytes, put_byte, put_no_bytes}
 use Rattle.sets.specs.declared.Set.{Set}
 use Rattle.sets.specs.Lengths.{header_length, round_least, round_most}
 use Rattle.shape.specs.Fields.{sizes}
 use Rattle.shape.specs.Header.{pair_bits, header_of}
 use Rattle.shape.specs.Rounds.{round_fields}
-use Rattle.shape.specs.Form.{Sized, slot_of, round_of}
+use Rattle.shape.specs.Form.{Shown, Sized, slot_of, round_of}
 use Rattle.shape.proofs.HeaderLaws.{pairs_end}
 use Rattle.shape.proofs.RoundsLaws.{sizes_zero, sizes-other}
 use Rattle.shape.proofs.RoundLaws.{pack-round}
 use Rattle.shape.proofs.ShownLaws.{length-slot_of}
-use Rattle.parts.specs.Places.{showing}
 
 -- ---- the header
 
--- the first i bytes of the header of values are written
-pub record Headed (vs : List ℕ) (out₀ : Bytes) (i : ℕ) (out : Bytes) : Type 0 where
-  pub is : out ≡ put out₀ 0 (bytes i (pair_bits vs))
-  pub far : i ≤ length out₀
-
-pub headed_none : (vs : List ℕ) (out₀ : Bytes) → Headed vs out₀ 0 out₀
-headed_none vs out₀ = record { is = put_no_bytes out₀ 0 _; far = omega arith }
-
-module _ {vs : List ℕ} {out₀ : Bytes} {i : ℕ} {out : Bytes} (h : Headed vs out₀ i out) where
-  pub headed_length : length out ≡ length out₀
-  headed_length =
-      let l : length (bytes i (pair_bits vs)) ≡ i = length-bytes i (pair_bits vs) in
-      ap length h.is ∙ length-put out₀ 0 (bytes i (pair_bits vs)) (omega (arith, h.far))
-
-  pub headed_more : i < length out₀ → (b : ℕ) → b ≡ value 8 (from (8 * i) (pair_bits vs)) → Headed vs out₀ (i + 1) (set out i b)
-  headed_more l b g =
-      record {
-        is =
-            rw h.is
-            (ap (λ (n : ℕ). set (put out₀ 0 (bytes i (pair_bits vs))) n b) (omega arith)
-            ∙ put_byte out₀ 0 i b (pair_bits vs) (omega arith) g);
-        far = omega arith;
-      }
-
-  pub headed_all : (p : Set) → length vs ≡ p.t → i ≡ header_length p → out ≡ over (header_of p vs) out₀
-  unfolding header_of bytes_of
-  headed_all p e g =
-      h.is ∙ ap (λ (f : Bits). put out₀ 0 (bytes i f)) (sym (pairs_end vs)) ∙ (rw (g, e) (put-start out₀ _))
+-- its bytes, one by one
+pub header_by_bytes : (p : Set) (vs : List ℕ) → length vs ≡ p.t → joined (header_length p) (λ q. value 8 (from (8 * q) (pair_bits vs)) ∷ []) ≡ header_of p vs
+unfolding header_of bytes_of bytes
+header_by_bytes p vs e =
+    ap (λ (f : Bits). joined (header_length p) (λ q. value 8 (from (8 * q) f) ∷ []))
+    (sym (pairs_end vs) ∙ ap (λ (n : ℕ). up_to (2 * n) (pair_bits vs)) e)
 
 -- ---- a round
 
@@ -72,11 +48,11 @@ four_put s at a b c d h {s1} {s2} {s3} {s4} e1 e2 e3 e4 =
     ∙ (ap (λ (n : ℕ). put (put s at ((a ++ b) ++ c)) n d) g4
     ∙ (put-put s at ((a ++ b) ++ c) d (omega arith) ∙ ap (put s at) (simp append_assoc))))
 
-module _ (p : Set) (e : ℕ) (a b c d f : Bytes) (z : Sized p (showing a b c d f)) where
+module _ (p : Set) (e : ℕ) (u : Shown) (z : Sized p u) where
   four : Bytes
-  four = a ++ (b ++ (c ++ d))
+  four = u.commitment ++ (u.transcript ++ (u.seed1 ++ u.seed2))
 
-  pub length_four : length a + length b + length c + length d ≡ round_least p
+  pub length_four : length u.commitment + length u.transcript + length u.seed1 + length u.seed2 ≡ round_least p
   length_four = omega (arith, z.commitment, z.transcript, z.seed1, z.seed2)
 
   long : length four ≡ round_least p
@@ -84,39 +60,40 @@ module _ (p : Set) (e : ℕ) (a b c d f : Bytes) (z : Sized p (showing a b c d f
   long =
       omega (
         arith,
-        length-append a (b ++ (c ++ d)),
-        length-append b (c ++ d),
-        length-append c d,
+        length-append u.commitment (u.transcript ++ (u.seed1 ++ u.seed2)),
+        length-append u.transcript (u.seed1 ++ u.seed2),
+        length-append u.seed1 u.seed2,
         length_four,
       )
 
-  whole : slot_of (showing a b c d f) ≡ four ++ f
+  whole : slot_of u ≡ four ++ u.share
   unfolding slot_of four
   whole = sym (simp append_assoc)
 
   -- without its share
-  pub round_zero : e ≡ 0 → round_of p e (showing a b c d f) ≡ a ++ (b ++ (c ++ d))
-  unfolding round_of four
+  round_zero : e ≡ 0 → round_of p e u ≡ four
+  unfolding round_of
   round_zero y =
-      pack-round p e (slot_of (showing a b c d f))
-      ∙ (rw (sizes_zero p e y, whole) (take_at four f (round_least p) long))
+      pack-round p e (slot_of u)
+      ∙ (rw (sizes_zero p e y, whole) (take_at four u.share (round_least p) long))
 
   -- with it
-  pub round-other : (e ≡ 0 → ⊥) → round_of p e (showing a b c d f) ≡ (a ++ (b ++ (c ++ d))) ++ f
-  unfolding round_of four
+  round-other : (e ≡ 0 → ⊥) → round_of p e u ≡ four ++ u.share
+  unfolding round_of
   round-other y =
-      pack-round p e (slot_of (showing a b c d f))
-      ∙ (rw (sizes-other p e y) (take_all (round_most p) (slot_of (showing a b c d f))
-      (omega (arith, length-slot_of p (showing a b c d f) z))) ∙ whole)
+      pack-round p e (slot_of u)
+      ∙ (rw (sizes-other p e y) (take_all (round_most p) (slot_of u)
+      (omega (arith, length-slot_of p u z))) ∙ whole)
 
-  pub put_zero : (s : Bytes) (at : ℕ) {s1 : Bytes} → e ≡ 0 → s1 ≡ put s at (a ++ (b ++ (c ++ d)))
-      → s1 ≡ put s at (round_of p e (showing a b c d f))
-  put_zero s at y g = g ∙ ap (put s at) (sym (round_zero y))
+  module _ (s : Bytes) (at : ℕ) {s1 : Bytes} (g : s1 ≡ put s at (u.commitment ++ (u.transcript ++ (u.seed1 ++ u.seed2)))) where
+    pub put_zero : e ≡ 0 → s1 ≡ put s at (round_of p e u)
+    unfolding four
+    put_zero y = g ∙ ap (put s at) (sym (round_zero y))
 
-  pub put_other : (s : Bytes) (at : ℕ) {s1 s2 : Bytes} (n : ℕ) → (e ≡ 0 → ⊥) → at + sizes (round_fields p e) ≤ length s → n ≡ at + round_least p
-      → s1 ≡ put s at (a ++ (b ++ (c ++ d))) → s2 ≡ put s1 n f → s2 ≡ put s at (round_of p e (showing a b c d f))
-  unfolding four
-  put_other s at {s1} {s2} n y l q g k =
-      let r : n ≡ at + length four = omega (arith, long) in
-      k ∙ (ap (λ (x : Bytes). put x n f) g ∙ (ap (λ (i : ℕ). put (put s at four) i f) r
-      ∙ (put-put s at four f (omega (arith, long, z.share, sizes-other p e y)) ∙ ap (put s at) (sym (round-other y)))))
+    pub put_other : {s2 : Bytes} (n : ℕ) → (e ≡ 0 → ⊥) → at + sizes (round_fields p e) ≤ length s → n ≡ at + round_least p
+        → s2 ≡ put s1 n u.share → s2 ≡ put s at (round_of p e u)
+    unfolding four
+    put_other n y l q k =
+        let r : n ≡ at + length four = omega (arith, long) in
+        k ∙ (ap (λ (x : Bytes). put x n u.share) g ∙ (ap (λ (i : ℕ). put (put s at four) i u.share) r
+        ∙ (put-put s at four u.share (omega (arith, long, z.share, sizes-other p e y)) ∙ ap (put s at) (sym (round-other y)))))

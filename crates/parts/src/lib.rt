@@ -13,7 +13,7 @@ ghost use Rattle.shape.specs.Header.{pair_bits, header_of, value_at, values, is_
 ghost use Rattle.shape.specs.Rounds.{round_fields, signature_length};
 ghost use Rattle.shape.specs.Form.{Sized, round_of};
 ghost use Rattle.shape.specs.Reading.{header_wrong, padding_wrong, read_checks};
-ghost use Rattle.parts.specs.Places.{parts_at, Stands, Located, showing};
+ghost use Rattle.parts.specs.Places.{parts_at, Stands, Located, shown_by};
 
 use answers::Refusal;
 use sets::Set;
@@ -27,6 +27,16 @@ pub struct Parts {
     pub seed2: usize,
     pub share: usize,
     pub next: usize,
+}
+
+// What is shown of a round, lent part by part.
+#[derive(Clone, Copy)]
+pub struct Shown<'a> {
+    pub commitment: &'a [u8],
+    pub transcript: &'a [u8],
+    pub seed1: &'a [u8],
+    pub seed2: &'a [u8],
+    pub share: &'a [u8],
 }
 
 // A round, and where it starts.
@@ -64,15 +74,7 @@ fn all_values(p: Set, s: &[u8]) -> bool
     requires { IsSet p × (header_length p ≤ length s.now) }
     ensures { result ≡ all is_value (values p s.now) }
 {
-    let t = p.t;
-    let mut k = 0;
-    while k < t {
-        if 3 <= value(s, k) {
-            return false;
-        }
-        k += 1;
-    }
-    true
+    (0..p.t).all(|k| value(s, k) < 3)
 }
 
 // The bits behind the first m of a field that starts at a place, to the byte, are zero.
@@ -113,12 +115,9 @@ fn full_length(p: Set, s: &[u8]) -> usize
     requires { IsSet p × (header_length p ≤ length s.now) }
     ensures { result ≡ signature_length p (values p s.now) }
 {
-    let t = p.t;
     let mut at = p.header() + Set::SALT;
-    let mut k = 0;
-    while k < t {
+    for k in 0..p.t {
         at += round_length(p, value(s, k));
-        k += 1;
     }
     at
 }
@@ -136,16 +135,13 @@ fn padding_wrong(p: Set, s: &[u8]) -> bool
     requires { IsSet p × (length s.now ≡ signature_length p (values p s.now)) }
     ensures { result ≡ padding_wrong p s.now }
 {
-    let t = p.t;
     let m = gates(p);
     let mut at = p.header() + Set::SALT;
-    let mut k = 0;
-    while k < t {
+    for k in 0..p.t {
         if !padded(s, at + p.digest, m) {
             return true;
         }
         at += round_length(p, value(s, k));
-        k += 1;
     }
     false
 }
@@ -244,10 +240,8 @@ pub fn put_header(p: Set, values: &[u8], output: &mut [u8])
     ensures { output.new ≡ over (header_of p values.now) output.old }
 {
     let n = p.header();
-    let mut i = 0;
-    while i < n {
-        output[i] = header_byte(values, i);
-        i += 1;
+    for (i, byte) in output[..n].iter_mut().enumerate() {
+        *byte = header_byte(values, i);
     }
 }
 
@@ -266,25 +260,18 @@ fn put_four(a: &[u8], b: &[u8], c: &[u8], d: &[u8], output: &mut [u8], at: usize
 }
 
 // A round of value e at a place of an output, and where the next one starts. Where e is 0 the share is left out.
-pub fn put_round(
-    p: Set,
-    e: u8,
-    commitment: &[u8],
-    transcript: &[u8],
-    seed1: &[u8],
-    seed2: &[u8],
-    share: &[u8],
-    output: &mut [u8],
-    at: usize,
-) -> usize
-    requires { IsSet p
-        × (Sized p (showing commitment.now transcript.now seed1.now seed2.now share.now)
-        × (at + sizes (round_fields p e) ≤ length output.old)) }
+pub fn put_round(p: Set, e: u8, shown: Shown<'_>, output: &mut [u8], at: usize) -> usize
+    requires { IsSet p × (Sized p (shown_by shown) × (at + sizes (round_fields p e) ≤ length output.old)) }
     ensures { (result ≡ at + sizes (round_fields p e))
-        × (output.new ≡ put output.old at
-        (round_of p e
-        (showing commitment.now transcript.now seed1.now seed2.now share.now))) }
+        × (output.new ≡ put output.old at (round_of p e (shown_by shown.entry))) }
 {
+    let Shown {
+        commitment,
+        transcript,
+        seed1,
+        seed2,
+        share,
+    } = shown;
     put_four(commitment, transcript, seed1, seed2, output, at);
     let end = at + p.round_least();
     if e == 0 {

@@ -98,14 +98,17 @@ pub fn committed(
     seed: &[u8],
     share: &[u8],
     transcript: &[u8],
-    output_share: &[u8],
+    output_share: Block,
 ) -> [u8; 64]
     requires { IsSet p }
-    ensures { take p.digest result ≡ commitment p seed.now share.now transcript.now output_share.now }
+    ensures { take p.digest result
+        ≡ commitment p seed.now share.now transcript.now (bytes_of p.n (block_bits output_share)) }
 {
+    let w = p.width();
     let n = p.digest;
+    let y = stored(p, output_share);
     let mut d = [0u8; 64];
-    hashing::commit(p, seed, share, transcript, output_share, &mut d[..n]);
+    hashing::commit(p, seed, share, transcript, &y[..w], &mut d[..n]);
     d
 }
 

@@ -34,6 +34,7 @@ ghost use Rattle.signer.specs.Finished.{Finished};
 use answers::Refusal;
 use bits::Block;
 use challenge::Filled;
+use parts::Shown;
 use round::{Shares, View};
 use sets::{Chosen, Set};
 
@@ -222,8 +223,7 @@ fn commit_party(p: Set, seed: &[u8], share: Block, said: [u8; 143], output_share
     let w = p.width();
     let m = p.transcript();
     let x = room::stored(p, share);
-    let y = room::stored(p, output_share);
-    room::committed(p, seed, &x[..w], &said[..m], &y[..w])
+    room::committed(p, seed, &x[..w], &said[..m], output_share)
 }
 
 // The commitment of party j in round t, at the start of an array.
@@ -319,13 +319,10 @@ fn fill(
         (signer_filling p (cipher_of p keys.now layers.now constants.now) secret.now public.now seeds.now)
         room.old }
 {
-    let rounds = p.t;
-    let mut t = 0;
-    while t < rounds {
+    for t in 0..p.t {
         fill_round(
             p, keys, layers, constants, secret, public, seeds, states, t, room,
         );
-        t += 1;
     }
 }
 
@@ -366,17 +363,14 @@ fn write_parts(
     let d = p.digest;
     let m = p.transcript();
     let w = p.width();
-    parts::put_round(
-        p,
-        e,
-        &commitment[..d],
-        &said[..m],
-        &seeds[a..a + s],
-        &seeds[b..b + s],
-        &share[..w],
-        output,
-        at,
-    )
+    let shown = Shown {
+        commitment: &commitment[..d],
+        transcript: &said[..m],
+        seed1: &seeds[a..a + s],
+        seed2: &seeds[b..b + s],
+        share: &share[..w],
+    };
+    parts::put_round(p, e, shown, output, at)
 }
 
 // What is shown of round t for the value e, at a place of the output; where the next round starts.
@@ -469,14 +463,11 @@ fn write(
         output.old) }
 {
     write_front(p, seeds, values, output);
-    let rounds = p.t;
     let mut at = p.header() + Set::SALT;
-    let mut t = 0;
-    while t < rounds {
+    for (t, e) in values.iter().enumerate() {
         at = write_round(
-            p, keys, layers, constants, secret, public, seeds, states, t, values[t], output, at,
+            p, keys, layers, constants, secret, public, seeds, states, t, *e, output, at,
         );
-        t += 1;
     }
     at
 }

@@ -13,7 +13,8 @@ ghost use Rattle.sets.specs.Lengths.{w, salt_length, header_length, public_lengt
 ghost use Rattle.answers.specs.Answers.{first};
 ghost use Rattle.circuit.specs.Round.{Party, next};
 ghost use Rattle.circuit.specs.Tapes.{party_number};
-ghost use Rattle.lowmc.specs.Lent.{cipher_of, Lent};
+ghost use Rattle.lowmc.specs.Lent.{cipher_of};
+ghost use Rattle.lowmc.specs.Cipher.{cipher};
 ghost use Rattle.lowmc.specs.Encrypted.{ciphertext, plaintext};
 ghost use Rattle.round.specs.Engine.{RecomputedAs, Written};
 ghost use Rattle.round.specs.Inputs.{opening_of};
@@ -21,7 +22,7 @@ ghost use Rattle.hashing.specs.Hashing.{h, commitment};
 ghost use Rattle.shape.specs.Header.{values};
 ghost use Rattle.shape.specs.Form.{form, values_in};
 ghost use Rattle.shape.specs.Reading.{read_checks};
-ghost use Rattle.parts.specs.Places.{Located, showing};
+ghost use Rattle.parts.specs.Places.{Located, shown_by};
 ghost use Rattle.views.specs.Parties.{party_of, from_party, three};
 ghost use Rattle.views.specs.Signed.{tape_of};
 ghost use Rattle.views.specs.Opened.{opened_share, recomputed_outputs, recomputed_commitments};
@@ -33,7 +34,8 @@ ghost use Rattle.verifier.specs.Verify.{Verified, length_checks, verdict_checks,
 use answers::Refusal;
 use bits::Block;
 use challenge::Filled;
-use parts::Here;
+use lowmc::Tables;
+use parts::{Here, Shown};
 use round::Again;
 use sets::{Chosen, Set};
 
@@ -61,10 +63,7 @@ fn opened_share(p: Set, j: usize, tape: &[u8], given: &[u8]) -> [u8; 32]
 
 // Two parties recomputed from their input shares, tapes and the second's transcript.
 fn recompute(
-    p: Set,
-    keys: &[u8],
-    layers: &[u8],
-    constants: &[u8],
+    tables: &Tables,
     block: &[u8],
     e: usize,
     share1: &[u8],
@@ -73,27 +72,22 @@ fn recompute(
     tape2: &[u8],
     transcript: &[u8],
 ) -> Again
-    requires { Lent p keys.now layers.now constants.now × (e < 3)
+    requires { (e < 3)
         × (length block.now ≤ 32) × (length share1.now ≤ 32) × (length share2.now ≤ 32) }
     ensures { (j : Party) → e ≡ party_number j
-        → RecomputedAs (cipher_of p keys.now layers.now constants.now) (bits_of block.now) j
-        (opening_of (cipher_of p keys.now layers.now constants.now) j (bits_of share1.now) (bits_of share2.now)
+        → RecomputedAs (cipher tables.now) (bits_of block.now) j
+        (opening_of (cipher tables.now) j (bits_of share1.now) (bits_of share2.now)
         tape1.now tape2.now transcript.now) result }
 {
     let x = Block::load(share1);
     let y = Block::load(share2);
     let plain = Block::load(block);
-    round::recompute_tapes(
-        p, keys, layers, constants, e, x, y, plain, tape1, tape2, transcript,
-    )
+    round::recompute_tapes(tables, e, x, y, plain, tape1, tape2, transcript)
 }
 
 // A round opened for challenge e over its two tapes.
 fn open_tapes(
-    p: Set,
-    keys: &[u8],
-    layers: &[u8],
-    constants: &[u8],
+    tables: &Tables,
     block: &[u8],
     e: usize,
     tape1: &[u8],
@@ -101,21 +95,19 @@ fn open_tapes(
     share: &[u8],
     transcript: &[u8],
 ) -> Opened
-    requires { Lent p keys.now layers.now constants.now × (e < 3) × (length block.now ≤ 32)
-        × (w p ≤ length tape1.now) × (w p ≤ length tape2.now)
-        × (length share.now ≤ 32) × ((e ≡ 0 → ⊥) → length share.now ≡ w p) }
+    requires { (e < 3) × (length block.now ≤ 32)
+        × (w tables.now.set ≤ length tape1.now) × (w tables.now.set ≤ length tape2.now)
+        × (length share.now ≤ 32) × ((e ≡ 0 → ⊥) → length share.now ≡ w tables.now.set) }
     ensures { (j : Party) → e ≡ party_number j
-        → OpenedAs (cipher_of p keys.now layers.now constants.now) j
+        → OpenedAs (cipher tables.now) j
         tape1.now tape2.now share.now transcript.now block.now result }
 {
+    let p = tables.set;
     let w = p.width();
     let share1 = opened_share(p, e, tape1, share);
     let share2 = opened_share(p, (e + 1) % 3, tape2, share);
     let again = recompute(
-        p,
-        keys,
-        layers,
-        constants,
+        tables,
         block,
         e,
         &share1[..w],
@@ -132,44 +124,29 @@ fn open_tapes(
 }
 
 // A round opened for challenge e, from the parts that a signature shows.
-fn open(
-    p: Set,
-    keys: &[u8],
-    layers: &[u8],
-    constants: &[u8],
-    block: &[u8],
-    salt: &[u8],
-    t: usize,
-    e: usize,
-    transcript: &[u8],
-    seed1: &[u8],
-    seed2: &[u8],
-    share: &[u8],
-) -> Opened
-    requires { Lent p keys.now layers.now constants.now × (t < 65536) × (e < 3) × (length block.now ≤ 32)
-        × (length share.now ≤ 32) × ((e ≡ 0 → ⊥) → length share.now ≡ w p) }
+fn open(tables: &Tables, block: &[u8], salt: &[u8], t: usize, e: usize, shown: &Shown) -> Opened
+    requires { (t < 65536) × (e < 3) × (length block.now ≤ 32)
+        × (length shown.now.share.now ≤ 32) × ((e ≡ 0 → ⊥) → length shown.now.share.now ≡ w tables.now.set) }
     ensures { (j : Party) → e ≡ party_number j
-        → OpenedAs (cipher_of p keys.now layers.now constants.now) j
-        (tape_of p (cipher_of p keys.now layers.now constants.now) salt.now t j seed1.now)
-        (tape_of p (cipher_of p keys.now layers.now constants.now) salt.now t (next j) seed2.now)
-        share.now transcript.now block.now result }
+        → OpenedAs (cipher tables.now) j
+        (tape_of tables.now.set (cipher tables.now) salt.now t j shown.now.seed1.now)
+        (tape_of tables.now.set (cipher tables.now) salt.now t (next j) shown.now.seed2.now)
+        shown.now.share.now shown.now.transcript.now block.now result }
 {
+    let p = tables.set;
     let k = (e + 1) % 3;
     let m = room::tape_length(p, e);
     let n = room::tape_length(p, k);
-    let tape1 = room::party_tape(p, seed1, salt, t, e);
-    let tape2 = room::party_tape(p, seed2, salt, t, k);
+    let tape1 = room::party_tape(p, shown.seed1, salt, t, e);
+    let tape2 = room::party_tape(p, shown.seed2, salt, t, k);
     open_tapes(
-        p,
-        keys,
-        layers,
-        constants,
+        tables,
         block,
         e,
         &tape1[..m],
         &tape2[..n],
-        share,
-        transcript,
+        shown.share,
+        shown.transcript,
     )
 }
 
@@ -194,187 +171,102 @@ fn commit_first(p: Set, seed: &[u8], share: &[u8], again: Again) -> [u8; 64]
         → take p.digest result
         ≡ commitment p seed.now share.now (bytes_of (3 * p.s * p.r) (flat (3 * p.s) u)) (bytes_of p.n (block_bits again.first)) }
 {
-    let w = p.width();
     let m = p.transcript();
-    let said = again.said;
-    let first = again.first;
-    let s = room::transcribed(p, said);
-    let y = room::stored(p, first);
-    room::committed(p, seed, share, &s[..m], &y[..w])
-}
-
-// The commitment of party e+1, whose transcript the signature shows, at the start of an array.
-fn commit_second(
-    p: Set,
-    seed: &[u8],
-    share: &[u8],
-    transcript: &[u8],
-    output_share: Block,
-) -> [u8; 64]
-    requires { IsSet p }
-    ensures { take p.digest result
-        ≡ commitment p seed.now share.now transcript.now (bytes_of p.n (block_bits output_share)) }
-{
-    let w = p.width();
-    let y = room::stored(p, output_share);
-    room::committed(p, seed, share, transcript, &y[..w])
+    let s = room::transcribed(p, again.said);
+    room::committed(p, seed, share, &s[..m], again.first)
 }
 
 // The commitments of round t in the room: two recomputed, and the third from the signature.
-fn put_commitments(
-    p: Set,
-    t: usize,
-    e: u8,
-    x: Opened,
-    shown: &[u8],
-    transcript: &[u8],
-    seed1: &[u8],
-    seed2: &[u8],
-    room: &mut [u8],
-)
-    requires { IsSet p × (t < p.t) × (room_length p ≤ length room.old) × (length shown.now ≡ p.digest)
+fn put_commitments(p: Set, t: usize, e: u8, x: Opened, shown: &Shown, room: &mut [u8])
+    requires { IsSet p × (t < p.t) × (room_length p ≤ length room.old) × (length shown.now.commitment.now ≡ p.digest)
         × Rowed (3 * p.s) p.r x.again.said.words }
     ensures { (u : Rows) → Written (3 * p.s) p.r u x.again.said.words
         → room.new ≡ put room.old (commitments_at p t)
         (three (from_party (party_of e)
-        (commitment p seed1.now (take (w p) x.share1) (bytes_of (3 * p.s * p.r) (flat (3 * p.s) u)) (bytes_of p.n (block_bits x.again.first)))
-        (commitment p seed2.now (take (w p) x.share2) transcript.now (bytes_of p.n (block_bits x.again.second)))
-        shown.now)) }
+        (commitment p shown.now.seed1.now (take (w p) x.share1) (bytes_of (3 * p.s * p.r) (flat (3 * p.s) u)) (bytes_of p.n (block_bits x.again.first)))
+        (commitment p shown.now.seed2.now (take (w p) x.share2) shown.now.transcript.now (bytes_of p.n (block_bits x.again.second)))
+        shown.now.commitment.now)) }
 {
     let w = p.width();
     let n = p.digest;
     let again = x.again;
-    let second = again.second;
     let share1 = x.share1;
     let share2 = x.share2;
-    let a = commit_first(p, seed1, &share1[..w], again);
-    let b = commit_second(p, seed2, &share2[..w], transcript, second);
-    room::put_commitments(p, t, e, &a[..n], &b[..n], shown, room);
+    let a = commit_first(p, shown.seed1, &share1[..w], again);
+    let b = room::committed(p, shown.seed2, &share2[..w], shown.transcript, again.second);
+    room::put_commitments(p, t, e, &a[..n], &b[..n], shown.commitment, room);
 }
 
 // Round t recomputed from the parts that a signature shows for the value e: output shares and commitments go into the room.
 fn fill_round(
-    p: Set,
-    keys: &[u8],
-    layers: &[u8],
-    constants: &[u8],
+    tables: &Tables,
     public: &[u8],
     salt: &[u8],
     t: usize,
     e: u8,
-    commitment: &[u8],
-    transcript: &[u8],
-    seed1: &[u8],
-    seed2: &[u8],
-    share: &[u8],
+    shown: &Shown,
     room: &mut [u8],
 )
-    requires { Lent p keys.now layers.now constants.now × (length public.now ≡ public_length p) × (t < p.t) × (e < 3)
-        × (length commitment.now ≡ p.digest) × (length share.now ≤ 32) × ((e ≡ 0 → ⊥) → length share.now ≡ w p)
-        × (room_length p ≤ length room.old) }
+    requires { (length public.now ≡ public_length tables.now.set) × (t < tables.now.set.t) × (e < 3)
+        × (length shown.now.commitment.now ≡ tables.now.set.digest)
+        × (length shown.now.share.now ≤ 32) × ((e ≡ 0 → ⊥) → length shown.now.share.now ≡ w tables.now.set)
+        × (room_length tables.now.set ≤ length room.old) }
     ensures { room.new
-        ≡ with_round p t
-        (three (recomputed_outputs p (cipher_of p keys.now layers.now constants.now) salt.now t (party_of e)
-        (showing commitment.now transcript.now seed1.now seed2.now share.now)
-        (plaintext p public.now) (ciphertext p public.now)))
-        (three (recomputed_commitments p (cipher_of p keys.now layers.now constants.now) salt.now t (party_of e)
-        (showing commitment.now transcript.now seed1.now seed2.now share.now)
-        (plaintext p public.now) (ciphertext p public.now)))
+        ≡ with_round tables.now.set t
+        (three (recomputed_outputs tables.now.set (cipher tables.now) salt.now t (party_of e) (shown_by shown.now)
+        (plaintext tables.now.set public.now) (ciphertext tables.now.set public.now)))
+        (three (recomputed_commitments tables.now.set (cipher tables.now) salt.now t (party_of e) (shown_by shown.now)
+        (plaintext tables.now.set public.now) (ciphertext tables.now.set public.now)))
         room.old }
 {
+    let p = tables.set;
     let w = p.width();
-    let x = open(
-        p,
-        keys,
-        layers,
-        constants,
-        &public[w..],
-        salt,
-        t,
-        e as usize,
-        transcript,
-        seed1,
-        seed2,
-        share,
-    );
-    let again = x.again;
-    put_outputs(p, t, e, again, &public[..w], room);
-    put_commitments(p, t, e, x, commitment, transcript, seed1, seed2, room);
+    let x = open(tables, &public[w..], salt, t, e as usize, shown);
+    put_outputs(p, t, e, x.again, &public[..w], room);
+    put_commitments(p, t, e, x, shown, room);
 }
 
 // Round t recomputed from where its parts stand in the signature.
-fn fill_at(
-    p: Set,
-    keys: &[u8],
-    layers: &[u8],
-    constants: &[u8],
-    public: &[u8],
-    signature: &[u8],
-    here: Here,
-    t: usize,
-    room: &mut [u8],
-)
-    requires { Lent p keys.now layers.now constants.now × (length public.now ≡ public_length p) × (t < p.t)
-        × (first (read_checks p signature.now) ≡ Refusal.Fine) × Located p signature.now t here × (room_length p ≤ length room.old) }
+fn fill_at(tables: &Tables, public: &[u8], signature: &[u8], here: Here, t: usize, room: &mut [u8])
+    requires { (length public.now ≡ public_length tables.now.set) × (t < tables.now.set.t)
+        × (first (read_checks tables.now.set signature.now) ≡ Refusal.Fine) × Located tables.now.set signature.now t here
+        × (room_length tables.now.set ≤ length room.old) }
     ensures { room.new
-        ≡ with_round p t
-        (three (opened_outputs p (cipher_of p keys.now layers.now constants.now) public.now (form p signature.now) t))
-        (three (opened_commitments p (cipher_of p keys.now layers.now constants.now) public.now (form p signature.now) t))
+        ≡ with_round tables.now.set t
+        (three (opened_outputs tables.now.set (cipher tables.now) public.now (form tables.now.set signature.now) t))
+        (three (opened_commitments tables.now.set (cipher tables.now) public.now (form tables.now.set signature.now) t))
         room.old }
 {
-    let from = p.header();
+    let from = tables.set.header();
     let end = from + Set::SALT;
     let q = here.parts;
-    let a = q.commitment;
-    let b = q.transcript;
-    let c = q.seed1;
-    let d = q.seed2;
-    let e = q.share;
-    let f = q.next;
-    fill_round(
-        p,
-        keys,
-        layers,
-        constants,
-        public,
-        &signature[from..end],
-        t,
-        here.value,
-        &signature[a..b],
-        &signature[b..c],
-        &signature[c..d],
-        &signature[d..e],
-        &signature[e..f],
-        room,
-    );
+    let shown = Shown {
+        commitment: &signature[q.commitment..q.transcript],
+        transcript: &signature[q.transcript..q.seed1],
+        seed1: &signature[q.seed1..q.seed2],
+        seed2: &signature[q.seed2..q.share],
+        share: &signature[q.share..q.next],
+    };
+    let salt = &signature[from..end];
+    fill_round(tables, public, salt, t, here.value, &shown, room);
 }
 
 // All rounds recomputed: the room is filled with their output shares and commitments.
-fn fill(
-    p: Set,
-    keys: &[u8],
-    layers: &[u8],
-    constants: &[u8],
-    public: &[u8],
-    signature: &[u8],
-    room: &mut [u8],
-)
-    requires { Lent p keys.now layers.now constants.now × (length public.now ≡ public_length p)
-        × (first (read_checks p signature.now) ≡ Refusal.Fine) × (room_length p ≤ length room.old) }
+fn fill(tables: &Tables, public: &[u8], signature: &[u8], room: &mut [u8])
+    requires { (length public.now ≡ public_length tables.now.set)
+        × (first (read_checks tables.now.set signature.now) ≡ Refusal.Fine) × (room_length tables.now.set ≤ length room.old) }
     ensures { (room.new
         ≡ over
-        (verifier_filling p (cipher_of p keys.now layers.now constants.now) public.now (form p signature.now))
+        (verifier_filling tables.now.set (cipher tables.now) public.now (form tables.now.set signature.now))
         room.old)
-        × (length (verifier_filling p (cipher_of p keys.now layers.now constants.now) public.now (form p signature.now)) ≡ room_length p) }
+        × (length (verifier_filling tables.now.set (cipher tables.now) public.now (form tables.now.set signature.now)) ≡ room_length tables.now.set) }
 {
-    let rounds = p.t;
+    let p = tables.set;
     let mut cursor = parts::start(p);
-    let mut t = 0;
-    while t < rounds {
+    for t in 0..p.t {
         let here = parts::locate(p, signature, cursor);
-        fill_at(p, keys, layers, constants, public, signature, here, t, room);
+        fill_at(tables, public, signature, here, t, room);
         cursor = here.next;
-        t += 1;
     }
 }
 
@@ -383,12 +275,9 @@ fn agrees(p: Set, found: &[u8], signature: &[u8]) -> bool
     requires { IsSet p × (length found.now ≡ p.t) × (header_length p ≤ length signature.now) }
     ensures { result ≡ equal found.now (values p signature.now) }
 {
-    let n = p.t;
     let mut d = 0u8;
-    let mut k = 0;
-    while k < n {
-        d |= found[k] ^ parts::value(signature, k);
-        k += 1;
+    for (k, v) in found.iter().enumerate() {
+        d |= *v ^ parts::value(signature, k);
     }
     d == 0
 }
@@ -467,26 +356,24 @@ fn refused(
 
 // The rounds, the challenge and the verdict, for a signature that reads well; the room is cleared.
 fn verify_read(
-    p: Set,
-    keys: &[u8],
-    layers: &[u8],
-    constants: &[u8],
+    tables: &Tables,
     public: &[u8],
     message: &[u8],
     limit: u64,
     room: &mut [u8],
     signature: &[u8],
 ) -> Refusal
-    requires { Lent p keys.now layers.now constants.now × (length public.now ≡ public_length p)
-        × (first (read_checks p signature.now) ≡ Refusal.Fine) × (room_length p ≤ length room.old) }
+    requires { (length public.now ≡ public_length tables.now.set)
+        × (first (read_checks tables.now.set signature.now) ≡ Refusal.Fine) × (room_length tables.now.set ≤ length room.old) }
     ensures { (result
         ≡ first
-        (verdict_checks p
-        (first_block p keys.now layers.now constants.now public.now message.now (form p signature.now))
-        limit (values_in p (form p signature.now))))
-        × (room.new ≡ cleared (room_length p) room.old) }
+        (verdict_checks tables.now.set
+        (first_block tables.now.set tables.now.keys.now tables.now.layers.now tables.now.constants.now public.now message.now (form tables.now.set signature.now))
+        limit (values_in tables.now.set (form tables.now.set signature.now))))
+        × (room.new ≡ cleared (room_length tables.now.set) room.old) }
 {
-    fill(p, keys, layers, constants, public, signature, room);
+    fill(tables, public, signature, room);
+    let p = tables.set;
     let n = p.room_length();
     let verdict = judge(p, &room[..n], public, message, limit, signature);
     slices::clear(room, n);
@@ -538,9 +425,13 @@ fn verify_known(
     if !found.fine() {
         return found.answer(0);
     }
-    let verdict = verify_read(
-        p, keys, layers, constants, public, message, limit, room, signature,
-    );
+    let tables = Tables {
+        set: p,
+        keys,
+        layers,
+        constants,
+    };
+    let verdict = verify_read(&tables, public, message, limit, room, signature);
     verdict.answer(0)
 }
 

@@ -1,23 +1,20 @@
 -- `parts::all_values` meets its contract.
-use Rattle.parts.proofs.HeadLaws.{valued_none, valued_more, valued_all, valued_fails, value_inside}
+use native.Mathlib.Omega.{arith}
+use Rattle.std.proofs.Common.{rules, refl, ◌∙◌, ◌*◌, ◌<◌, length}
+use borrow.Author.Tests.{tests}
+use Rattle.std.proofs.lemmas.Iterator.{YieldsList-from_range, serves_from_Range}
+use Rattle.std.proofs.lemmas.Iterator.Search.{all_from_yields_List}
+use Rattle.shape.specs.Header.{value_at, is_value}
+use Rattle.parts.proofs.HeadLaws.{value_inside, all_places}
 use Rattle.parts.proofs.all_values.Goals as goal
 
-pub loop-k-init : goal.loop-k-init
-loop-k-init c = valued_none _ _
-
-pub value-requires : goal.value-requires
-value-requires c =
-    value_inside c.args.p _ _ c.requires.1 c.loop-k-test.true
-
-pub returns-then-value-ge3 : goal.returns-then-value-ge3
-returns-then-value-ge3 c =
-    valued_fails c.args.p c.args.s.now _ _ c.loop-k-test.true c.value.ensures
-    c.if-value-ge3.true
-
-pub loop-k-preserved : goal.loop-k-preserved
-loop-k-preserved c =
-    valued_more c.loop-k.invariant c.loop-k-test.true _ c.value.ensures c.if-value-ge3.false
+pub all-requires-clause-callable : goal.all-requires-clause-callable
+all-requires-clause-callable c =
+    serves_from_Range (λ x q k. search rules)
+    (λ x a b. let h : x < 4 * length c.args.s.now = value_inside c.args.p _ _ c.requires.1 b in search rules)
 
 pub returns : goal.returns
 returns c =
-    valued_all c.args.p c.args.s.now _ c.loop-k.invariant c.loop-k-test.false
+    all_from_yields_List (λ k. is_value (value_at c.args.s.now k)) _ _ _ c.all.ensures.ran
+    (YieldsList-from_range 0 c.args.p.t c.args.p.t refl (omega arith)) (λ x b q k. search (rules, tests))
+    ∙ all_places is_value c.args.p c.args.s.now

@@ -35,40 +35,40 @@ overflow_mul-b-2 c =
 pub slice_bounds-commitment-end : goal.slice_bounds-commitment-end
 slice_bounds-commitment-end c = omega (arith, (sizes c.requires.0).digest)
 
-pub slice_bounds-put_round-end : goal.slice_bounds-put_round-end
-slice_bounds-put_round-end c =
+pub slice_bounds-shown-end : goal.slice_bounds-shown-end
+slice_bounds-shown-end c =
     let l : length c.args.commitment ≡ 64 = search rules in
     sym (length-take-le _ _ (omega (arith, (sizes c.requires.0).digest)))
 
 pub slice_bounds-said-end : goal.slice_bounds-said-end
 slice_bounds-said-end c = omega (arith, (sizes c.requires.0).transcript, c.transcript-m.ensures)
 
-pub slice_bounds-put_round-end-2 : goal.slice_bounds-put_round-end-2
-slice_bounds-put_round-end-2 c =
+pub slice_bounds-shown-end-2 : goal.slice_bounds-shown-end-2
+slice_bounds-shown-end-2 c =
     let l : length c.args.said ≡ 143 = search rules in
     sym (length-take-le _ _ (omega (arith, (sizes c.requires.0).transcript, c.transcript-m.ensures)))
 
-pub overflow_add-a-2 : goal.overflow_add-a-2
-overflow_add-a-2 c =
+pub overflow_add-shown : goal.overflow_add-shown
+overflow_add-shown c =
     omega (arith, placed c.args.seeds.now c.requires.0 c.requires.1 c.requires.2 c.requires.3 c.seed_width-s.ensures)
 
-pub slice_bounds-put_round-end-3 : goal.slice_bounds-put_round-end-3
-slice_bounds-put_round-end-3 c =
+pub slice_bounds-shown-end-3 : goal.slice_bounds-shown-end-3
+slice_bounds-shown-end-3 c =
     omega (arith, placed c.args.seeds.now c.requires.0 c.requires.1 c.requires.2 c.requires.3 c.seed_width-s.ensures)
 
-pub overflow_add-b-3 : goal.overflow_add-b-3
-overflow_add-b-3 c =
+pub overflow_add-shown-2 : goal.overflow_add-shown-2
+overflow_add-shown-2 c =
     omega (arith, placed-next c.args.seeds.now c.requires.0 c.requires.1 c.requires.2 c.args.e c.seed_width-s.ensures)
 
-pub slice_bounds-put_round-end-4 : goal.slice_bounds-put_round-end-4
-slice_bounds-put_round-end-4 c =
+pub slice_bounds-shown-end-4 : goal.slice_bounds-shown-end-4
+slice_bounds-shown-end-4 c =
     omega (arith, placed-next c.args.seeds.now c.requires.0 c.requires.1 c.requires.2 c.args.e c.seed_width-s.ensures)
 
 pub slice_bounds-share-end : goal.slice_bounds-share-end
 slice_bounds-share-end c = omega (arith, (sizes c.requires.0).width, c.width-w.ensures)
 
-pub slice_bounds-put_round-end-5 : goal.slice_bounds-put_round-end-5
-slice_bounds-put_round-end-5 c =
+pub slice_bounds-shown-end-5 : goal.slice_bounds-shown-end-5
+slice_bounds-shown-end-5 c =
     let l : length c.args.share ≡ 32 = search rules in
     sym (length-take-le _ _ (omega (arith, (sizes c.requires.0).width, c.width-w.ensures)))
 

@@ -1,7 +1,6 @@
 -- `verifier::fill` meets its contract.
 use mathlib.Core.Path.{◌≡◌}
-use Prim.Native.Nat.{◌≤◌, ◌-◌}
-use Rattle.lowmc.specs.Lent.{cipher_of}
+use Rattle.lowmc.specs.Cipher.{cipher}
 use Rattle.shape.specs.Form.{form}
 use Rattle.parts.specs.Places.{Stands}
 use Rattle.views.specs.Input.{opened_outputs, opened_commitments}
@@ -9,8 +8,5 @@ use Rattle.room.proofs.HeldLaws.{Held}
 use Rattle.verifier.proofs.fill.Given as goal
 
 abbrev pub invariant-loop-t : goal.invariant-loop-t
-invariant-loop-t l = (l.t ≤ l.rounds) × (l.cursor.round ≡ l.t) × Stands l.p l.signature l.cursor
-    × Held l.p l.t (opened_outputs l.p (cipher_of l.p l.keys l.layers l.constants) l.public (form l.p l.signature)) (opened_commitments l.p (cipher_of l.p l.keys l.layers l.constants) l.public (form l.p l.signature)) l.initial.room l.room
-
-abbrev pub decreases-loop-t : goal.decreases-loop-t
-decreases-loop-t l = l.rounds - l.t
+invariant-loop-t l = (l.cursor.round ≡ l.t) × Stands l.tables.set l.signature l.cursor
+    × Held l.tables.set l.t (opened_outputs l.tables.set (cipher l.tables) l.public (form l.tables.set l.signature)) (opened_commitments l.tables.set (cipher l.tables) l.public (form l.tables.set l.signature)) l.initial.room l.room

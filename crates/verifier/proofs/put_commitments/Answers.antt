@@ -1,17 +1,10 @@
 -- `verifier::put_commitments` meets its contract.
-use mathlib.Core.Path.{◌≡◌, refl, sym, ap, ◌∙◌}
-use Prim.Native.Nat.{◌*◌}
+use mathlib.Core.Path.{◌≡◌, sym}
 use native.Mathlib.Omega.{arith}
 use lib.ListN.{length}
 use lib.Seq.{length-take-le}
-use Rattle.slices.specs.Slices.{Bytes}
-use Rattle.bits.specs.Bytes.{bytes_of}
-use Rattle.bits.specs.Rows.{flat}
-use Rattle.bits.specs.Words.{block_bits}
-use Rattle.hashing.specs.Hashing.{commitment}
 use Rattle.hashing.proofs.HashingLaws.{digest_fits}
-use Rattle.room.proofs.RoomLaws.{sizes, take_as}
-use Rattle.verifier.proofs.OpenedLaws.{put_three}
+use Rattle.room.proofs.RoomLaws.{sizes}
 use borrow.Author.Rules.{rules}
 use Rattle.verifier.proofs.put_commitments.Goals as goal
 
@@ -30,8 +23,8 @@ slice_bounds-share2-end c =
     let l : length c.args.x.share2 ≡ 32 = search rules in
     omega (arith, l, (sizes c.requires.0).width, c.width-w.ensures)
 
-pub slice_bounds-commit_second-end : goal.slice_bounds-commit_second-end
-slice_bounds-commit_second-end c =
+pub slice_bounds-committed-end : goal.slice_bounds-committed-end
+slice_bounds-committed-end c =
     let l : length c.args.x.share2 ≡ 32 = search rules in
     sym (length-take-le _ _ (omega (arith, l, (sizes c.requires.0).width, c.width-w.ensures)))
 
@@ -47,30 +40,17 @@ slice_bounds-put_commitments-end c =
 
 pub slice_bounds-b-end : goal.slice_bounds-b-end
 slice_bounds-b-end c =
-    let l : length c.commit_second-b.result ≡ 64 = search rules in
+    let l : length c.committed-b.result ≡ 64 = search rules in
     omega (arith, l, digest_fits c.requires.0)
 
 pub slice_bounds-put_commitments-end-2 : goal.slice_bounds-put_commitments-end-2
 slice_bounds-put_commitments-end-2 c =
-    let l : length c.commit_second-b.result ≡ 64 = search rules in
+    let l : length c.committed-b.result ≡ 64 = search rules in
     sym (length-take-le _ _ (omega (arith, l, digest_fits c.requires.0)))
 
 pub put_commitments-requires : goal.put_commitments-requires
 put_commitments-requires c =
     let h = c.requires in
     let l : length c.commit_first-a.result ≡ 64 = search rules in
-    let m : length c.commit_second-b.result ≡ 64 = search rules in
+    let m : length c.committed-b.result ≡ 64 = search rules in
     (h.0, h.1, h.2, length-take-le _ _ (omega (arith, l, digest_fits h.0)), length-take-le _ _ (omega (arith, m, digest_fits h.0)), h.3)
-
-pub returns : goal.returns
-returns c =
-    let a = c.args in
-    λ u x.
-    put_three a.room.now _ a.e _ _ _ _ a.shown.now
-    (c.commit_first-a.ensures u x
-    ∙ ap (λ (s : Bytes). commitment a.p a.seed1.now s (bytes_of (3 * a.p.s * a.p.r) (flat (3 * a.p.s) u)) (bytes_of a.p.n (block_bits a.x.again.first)))
-    (take_as _ _ _ _ c.width-w.ensures refl))
-    (c.commit_second-b.ensures
-    ∙ ap (λ (s : Bytes). commitment a.p a.seed2.now s a.transcript.now (bytes_of a.p.n (block_bits a.x.again.second)))
-    (take_as _ _ _ _ c.width-w.ensures refl))
-    c.put_commitments.ensures

@@ -12,12 +12,18 @@ pub returns-then-not-fine-2 : goal.returns-then-not-fine-2
 returns-then-not-fine-2 c =
     λ set e. unread _ _ e c.refused-why.ensures (sym c.fine.ensures ∙ c.if-not-fine.false) c.check-found.ensures (sym c.fine-2.ensures ∙ c.if-not-fine-2.true) c.answer-then-not-fine-2.ensures
 
+pub invariant_of-tables : goal.invariant_of-tables
+invariant_of-tables c =
+    let a = c.args in
+    let g = handed 0 a.keys.now a.layers.now a.constants.now a.public.now a.message.now a.limit a.room.now a.signature.now in
+    record { lent = (fitting c.requires g _ c.refused-why.ensures (sym c.fine.ensures ∙ c.if-not-fine.false)).lent }
+
 pub verify_read-verdict-requires : goal.verify_read-verdict-requires
 verify_read-verdict-requires c =
     let a = c.args in
     let g = handed 0 a.keys.now a.layers.now a.constants.now a.public.now a.message.now a.limit a.room.now a.signature.now in
     let f = fitting c.requires g _ c.refused-why.ensures (sym c.fine.ensures ∙ c.if-not-fine.false) in
-    (f.lent, f.public-long, sym c.check-found.ensures ∙ fine_is _ (sym c.fine-2.ensures ∙ c.if-not-fine-2.false), f.room-enough)
+    (f.public-long, sym c.check-found.ensures ∙ fine_is _ (sym c.fine-2.ensures ∙ c.if-not-fine-2.false), f.room-enough)
 
 pub returns : goal.returns
 returns c =
