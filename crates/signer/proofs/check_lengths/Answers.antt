@@ -1,9 +1,9 @@
--- `signer::refused` meets its contract.
+-- `signer::check_lengths` meets its contract.
 use mathlib.Core.Path.{sym, ◌∙◌}
 use Rattle.answers.proofs.AnswersLaws.{first_table, first_key, first-message, first-limit, first-room, first-none}
 use Rattle.answers.proofs.ConditionsLaws.{other-true, other-false, short_true, short_false}
 use Rattle.signer.specs.Sign.{length_checks}
-use Rattle.signer.proofs.refused.Goals as goal
+use Rattle.signer.proofs.check_lengths.Goals as goal
 
 pub returns-then-tables_other : goal.returns-then-tables_other
 unfolding length_checks
