@@ -44,12 +44,18 @@ impl Sponge {
         self
     }
 
-    // One byte is taken in.
-    pub fn absorb_byte(self, b: u8) -> Self
+    // One byte is taken in. Not by absorb, which takes longer for so few bytes.
+    pub fn absorb_byte(mut self, b: u8) -> Self
         requires { Taking self }
         ensures { (result ≡ absorbed self (b ∷ [])) × Taking result }
     {
-        self.absorb(&[b])
+        state::add_byte(&mut self.lanes, self.at, b);
+        self.at += 1;
+        if self.at == self.rate {
+            keccak::permute(&mut self.lanes);
+            self.at = 0;
+        }
+        self
     }
 
     // Two bytes are taken in: x, the low one first.
@@ -57,7 +63,8 @@ impl Sponge {
         requires { Taking self }
         ensures { (result ≡ absorbed self (x % 256 ∷ x / 256 ∷ [])) × Taking result }
     {
-        self.absorb(&x.to_le_bytes())
+        let [low, high] = x.to_le_bytes();
+        self.absorb_byte(low).absorb_byte(high)
     }
 
     // The message is ended: here the suffix and the first bit of the padding, its last bit at the end of the block.

@@ -1,6 +1,5 @@
 // The bytes of a state: bytes added to it and bytes given from it, by words of eight where that can be. Lane k has the bytes from 8 * k on, the low one first.
-ghost use Rattle.std.specs.Prelude.{◌≡◌, ◌+◌, ◌*◌, ◌<◌, ◌≤◌, length};
-ghost use Rattle.slices.specs.Slices.{over};
+ghost use Rattle.std.specs.Prelude.{◌≡◌, ◌+◌, ◌*◌, ◌%◌, ◌<◌, ◌≤◌, length};
 ghost use Rattle.shake.specs.Shake.{octets, byte_at, bytes_at, byte_added, added};
 
 // b is added to byte j of the state.
@@ -39,20 +38,20 @@ pub fn add_part(a: &mut [u64; 25], j: usize, s: &[u8])
     }
 }
 
-// Byte j of the state.
+// Byte j of the state. By a shift: an index into the bytes of the lane would store them first.
 fn byte_of(a: &[u64; 25], j: usize) -> u8
     requires { j < 200 }
     ensures { result ≡ byte_at a.now j }
 {
-    a[j / 8].to_le_bytes()[j % 8]
+    ((a[j / 8] >> (8 * (j % 8))) % 256) as u8
 }
 
-// n lanes from k on are stored at the start of out.
-fn give_words(a: &[u64; 25], k: usize, n: usize, out: &mut [u8])
-    requires { (k + n ≤ 25) × (8 * n ≤ length out.old) }
-    ensures { out.new ≡ over (bytes_at a.now (8 * k) (8 * n)) out.old }
+// out, some whole words, is filled from the lane k on. By index: of chunks that are lent a proof does not know what is written to them.
+fn give_words(a: &[u64; 25], k: usize, out: &mut [u8])
+    requires { (8 * k + length out.old ≤ 200) × (length out.old % 8 ≡ 0) }
+    ensures { out.new ≡ bytes_at a.now (8 * k) (length out.old) }
 {
-    for q in 0..n {
+    for q in 0..out.len() / 8 {
         out[8 * q..8 * q + 8].copy_from_slice(&a[k + q].to_le_bytes());
     }
 }
@@ -72,7 +71,12 @@ pub fn give_part(a: &[u64; 25], j: usize, out: &mut [u8])
     requires { j + length out.old ≤ 200 }
     ensures { out.new ≡ bytes_at a.now j (length out.old) }
 {
-    let n = if j % 8 == 0 { out.len() / 8 } else { 0 };
-    give_words(a, j / 8, n, out);
-    give_bytes(a, j + 8 * n, &mut out[8 * n..]);
+    if j % 8 != 0 {
+        give_bytes(a, j, out);
+        return;
+    }
+    let m = out.len() / 8 * 8;
+    let (words, bytes) = out.split_at_mut(m);
+    give_words(a, j / 8, words);
+    give_bytes(a, j + m, bytes);
 }

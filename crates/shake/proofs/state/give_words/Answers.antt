@@ -6,7 +6,7 @@ use lib.ListN.{length}
 use Rattle.slices.specs.Slices.{over}
 use Rattle.shake.specs.Shake.{bytes_at}
 use Rattle.shake.proofs.OctetsLaws.{octets-le}
-use Rattle.shake.proofs.StateLaws.{length-bytes_at, bytes_at-word, over-bytes_at-none, over-bytes_at, put_mid-put}
+use Rattle.shake.proofs.StateLaws.{length-bytes_at, bytes_at-word, over-bytes_at-none, over-bytes_at, over-bytes_at-all, put_mid-put}
 use Rattle.shake.proofs.state.give_words.Goals as goal
 
 pub loop-q-init : goal.loop-q-init
@@ -29,5 +29,6 @@ loop-q-preserved c =
 pub returns : goal.returns
 returns c =
     let l = c.loop-q in
-    let e : l.q ≡ c.args.n = omega arith in
-    rw e at l.invariant
+    let o = c.args.out.now in
+    let e : 8 * l.q ≡ length o = omega arith in
+    over-bytes_at-all o l.out c.args.a.now (8 * c.args.k) (length o) (omega arith) (rw e at l.invariant)
