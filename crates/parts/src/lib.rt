@@ -93,10 +93,7 @@ fn header_wrong(p: Set, s: &[u8]) -> bool
     requires { IsSet p × (header_length p ≤ length s.now) }
     ensures { result ≡ header_wrong p s.now }
 {
-    if all_values(p, s) {
-        return !padded(s, 0, 2 * p.t);
-    }
-    true
+    !all_values(p, s) || !padded(s, 0, 2 * p.t)
 }
 
 // The length of a round of value e.
@@ -219,10 +216,7 @@ fn pair(values: &[u8], k: usize) -> u8
     requires { AreValues values.now }
     ensures { result ≡ value 2 (from (2 * k) (pair_bits values.now)) }
 {
-    if k < values.len() {
-        return exchanged(values[k]);
-    }
-    0
+    exchanged(values.get(k).copied().unwrap_or(0))
 }
 
 // Byte i of a header: the pairs of four values, the first in the high bits.
