@@ -33,27 +33,25 @@ fn ones(row: &[u8], v: Block, k: usize) -> u32
     u64::count_ones(bits::load_low(row, 8 * k) & v.words[k])
 }
 
-// The ones in row AND v: the sum of those in each of the w / 8 words. Each width has an expression of its own, and so a loop over
-// rows of its own.
-fn row_ones(row: &[u8], w: usize, v: Block) -> u32
-    requires { Words w × (length row.now ≡ w) }
-    ensures { odd result ≡ row_parity (8 * w) (bits_of row.now) (low_bits v) }
+// The ones in row AND v: the sum of those in each word of the row. Each width has an expression of its own, and so a loop over rows
+// of its own.
+fn row_ones(row: &[u8], v: Block) -> u32
+    requires { Words (length row.now) }
+    ensures { odd result ≡ row_parity (8 * length row.now) (bits_of row.now) (low_bits v) }
 {
-    if w == 16 {
-        return ones(row, v, 0) + ones(row, v, 1);
+    match row.len() {
+        16 => ones(row, v, 0) + ones(row, v, 1),
+        24 => ones(row, v, 0) + ones(row, v, 1) + ones(row, v, 2),
+        _ => ones(row, v, 0) + ones(row, v, 1) + ones(row, v, 2) + ones(row, v, 3),
     }
-    if w == 24 {
-        return ones(row, v, 0) + ones(row, v, 1) + ones(row, v, 2);
-    }
-    ones(row, v, 0) + ones(row, v, 1) + ones(row, v, 2) + ones(row, v, 3)
 }
 
 // The parity of row AND v: the low bit of the sum.
-fn row_parity(row: &[u8], w: usize, v: Block) -> u32
-    requires { Words w × (length row.now ≡ w) }
-    ensures { result ≡ digit (row_parity (8 * w) (bits_of row.now) (low_bits v)) }
+fn row_parity(row: &[u8], v: Block) -> u32
+    requires { Words (length row.now) }
+    ensures { result ≡ digit (row_parity (8 * length row.now) (bits_of row.now) (low_bits v)) }
 {
-    row_ones(row, w, v) % 2
+    row_ones(row, v) % 2
 }
 
 // Vectors with the bytes of each word in the other order.
@@ -68,13 +66,13 @@ fn turned<const N: usize>(v: [Block; N]) -> [Block; N]
 }
 
 // Words with one bit more: the parity of row AND each of N vectors.
-fn with_row<const N: usize>(x: [u64; N], row: &[u8], w: usize, t: [Block; N]) -> [u64; N]
-    requires { Words w × (length row.now ≡ w) × ((k : ℕ) → k < N → get_or x k 0 * 2 + 1 < 2 ^ 64) }
-    ensures { (k : ℕ) → k < N → get_or result k 0 ≡ get_or x.entry k 0 * 2 + digit (row_parity (8 * w) (bits_of row.now) (low_bits (at t.entry k))) }
+fn with_row<const N: usize>(x: [u64; N], row: &[u8], t: [Block; N]) -> [u64; N]
+    requires { Words (length row.now) × ((k : ℕ) → k < N → get_or x k 0 * 2 + 1 < 2 ^ 64) }
+    ensures { (k : ℕ) → k < N → get_or result k 0 ≡ get_or x.entry k 0 * 2 + digit (row_parity (8 * length row.now) (bits_of row.now) (low_bits (at t.entry k))) }
 {
     let mut y = x;
     for (k, word) in y.iter_mut().enumerate() {
-        *word = *word * 2 + row_parity(row, w, t[k]) as u64;
+        *word = *word * 2 + row_parity(row, t[k]) as u64;
     }
     y
 }
@@ -90,7 +88,7 @@ fn rows_words<const N: usize>(m: &[u8], w: usize, g: usize, v: [Block; N]) -> [u
     for j in 0..64 {
         let start = (g + j) * w;
         let end = start + w;
-        x = with_row(x, &m[start..end], w, t);
+        x = with_row(x, &m[start..end], t);
     }
     x
 }
