@@ -2,12 +2,39 @@
 use mathlib.Core.Path.{◌≡◌, refl}
 use mathlib.Core.Bool.{Bool, true, false, cond}
 use mathlib.Core.List.{List, [], ◌∷◌, ◌++◌}
-use Prim.Native.Nat.{ℕ, ◌^◌, ◌<◌}
+use Prim.Native.Nat.{ℕ, ◌^◌, ◌≤◌, ◌<◌}
 use native.Mathlib.Omega.{arith}
-use Rattle.std.proofs.Common.{Err}
+use lib.Dec.{lit≤}
+use Rattle.std.proofs.Common.{Ok, Err}
 use Rattle.answers.specs.declared.Refusal.{Refusal}
-use Rattle.answers.specs.declared.Refusal.TheVariants.{Table, Key, Message, Limit, Room}
-use Rattle.answers.specs.Answers.{Checked, Fine, Check, when, first, answer, Halves}
+use Rattle.answers.specs.declared.Refusal.TheVariants.{NoSet, Table, Key, Message, Limit, Room, Pair, Blocks, Length, Header, Padding, Differs}
+use Rattle.answers.specs.Answers.{Checked, Fine, fine, number, code, Check, when, first, answer, Halves}
+
+-- ---- numbers
+
+-- no refusal has the number 0
+pub number-least : (r : Refusal) → 1 ≤ number r
+number-least NoSet = lit≤ tt
+number-least Table = lit≤ tt
+number-least Key = lit≤ tt
+number-least Message = lit≤ tt
+number-least Limit = lit≤ tt
+number-least Room = lit≤ tt
+number-least Pair = lit≤ tt
+number-least Blocks = lit≤ tt
+number-least Length = lit≤ tt
+number-least Header = lit≤ tt
+number-least Padding = lit≤ tt
+number-least Differs = lit≤ tt
+
+-- so 0 is that of nothing refused
+pub zero_is : (c : Checked) → code c ≡ 0 → c ≡ Fine
+zero_is (Ok done) e = refl
+zero_is (Err r) e = absurd (omega (arith, number-least r))
+
+pub fine_is : (c : Checked) → fine c ≡ true → c ≡ Fine
+fine_is (Ok done) e = refl
+fine_is (Err r) e = cc
 
 -- ---- the first check that holds
 

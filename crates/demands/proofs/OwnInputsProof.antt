@@ -12,7 +12,7 @@ use Rattle.sets.specs.declared.Set.{Set}
 use Rattle.sets.specs.Sets.{numbered}
 use Rattle.sets.specs.Lengths.{public_length, seeds_length, room_length, longest}
 use Rattle.sets.proofs.Each.{known_set}
-use Rattle.answers.specs.Answers.{Fine, number, Check}
+use Rattle.answers.specs.Answers.{code, Check}
 use Rattle.answers.specs.Outcome.{unless, with_set, Promise}
 use Rattle.answers.proofs.OutcomeLaws.{set_known, unless-given}
 use Rattle.hashing.specs.Hashing.{derived_seeds}
@@ -33,7 +33,7 @@ module _ (k : ℕ) (ks : Set → List Check) (vs : Set → Bytes) (before : Byte
   set_gave : (p : Set) → numbered k ≡ Some p → take back after ≡ vs p
   set_gave p e =
       let t : Promise (unless (ks p) (vs p)) before back after = rw (set_known (numbered k) (λ q. unless (ks q) (vs q)) p e) at s in
-      gave_bytes _ (vs p) before back after (unless-given (ks p) (vs p) Fine (unless_alone (ks p) (vs p) before back after t l) refl) t
+      gave_bytes _ (vs p) before back after (unless-given (ks p) (vs p) (unless_alone (ks p) (vs p) before back after t l)) t
 
 -- ---- a public key
 
@@ -50,7 +50,7 @@ written_key_has_halves k keys layers constants secret block before back after s 
 pair-taken : (c : Option Set) (g : sign.Given)
     → ((p : Set) → c ≡ Some p
     → encrypted p g.keys g.layers g.constants g.secret (plaintext p g.public) ≡ ciphertext p g.public)
-    → ¬ (number (sign.refusal_for c g) ≡ 7)
+    → ¬ (code (sign.refusal_for c g) ≡ 7)
 unfolding sign.refusal_for sign.checks sign.length_checks raised
 pair-taken None g h = λ a. omega arith
 pair-taken (Some p) g h = not_raised 6 (sign.checks p g) (rw (h p refl, equal_self (ciphertext p g.public)))
@@ -70,7 +70,7 @@ written_key_is_never_refused g block before back after s l e answer room output 
 room-taken : (c : Option Set) (g : sign.Given)
     → ((p : Set) → c ≡ Some p
     → (length g.seeds ≡ seeds_length p) × (room_length p ≤ length g.room) × (longest p ≤ length g.output))
-    → ¬ (number (sign.refusal_for c g) ≡ 6)
+    → ¬ (code (sign.refusal_for c g) ≡ 6)
 unfolding sign.refusal_for sign.checks sign.length_checks raised
 room-taken None g h = λ a. omega arith
 room-taken (Some p) g h =
