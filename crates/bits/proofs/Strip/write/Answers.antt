@@ -2,32 +2,46 @@
 use native.Mathlib.Omega.{arith}
 use mathlib.Core.Path.{◌≡◌, ◌∙◌, ap}
 use mathlib.Core.List.{List}
-use Prim.Native.Nat.{ℕ}
+use Prim.Native.Nat.{ℕ, ◌+◌, ◌*◌, ◌<◌}
 use lib.ListN.{length, set}
 use Rattle.slices.specs.Slices.{put}
-use Rattle.bits.specs.Bytes.{bytes}
+use Rattle.bits.specs.Bits.{from}
+use Rattle.bits.specs.Bytes.{bytes, value}
 use Rattle.bits.specs.Rows.{flat, rows_of}
 use Rattle.bits.proofs.BytesLaws.{put_no_bytes, put_next}
 use Rattle.bits.proofs.RowsLaws.{row_below, rows_all}
 use Rattle.bits.proofs.Strip.write.Goals as goal
+use Rattle.bits.proofs.Strip.write.Goals.{then-d-m, else-d-m}
 
-pub loop-k-init : goal.loop-k-init
-loop-k-init c = put_no_bytes c.args.s.now 0 _
+pub loop-x-init : goal.loop-x-init
+loop-x-init c = (omega arith, omega arith, put_no_bytes c.args.s.now 0 _)
 
 pub byte-requires : goal.byte-requires
 byte-requires c =
     let a = c.args in
-    (omega arith, omega arith, row_below a.m a.n c.loop-k.k (omega arith) (omega (arith, c.requires.3)), c.requires.4.narrow)
+    let l = c.loop-x in
+    let h = row_below a.m a.n l.i l.d l.x-index l.invariant.1 (omega (arith, c.requires.3)) in
+    (omega arith, omega arith, omega (arith, h), l.invariant.0, c.requires.4.narrow)
 
-pub loop-k-preserved : goal.loop-k-preserved
-loop-k-preserved c =
-    let l = c.loop-k in
-    ap (λ (y : List ℕ). set y l.k c.byte.result) l.invariant ∙ put_next c.args.s.now l.k c.byte.result _ (omega arith) c.byte.ensures
+pub loop-x-preserved : goal.loop-x-preserved
+loop-x-preserved c =
+    let m = c.args.m in
+    let l = c.loop-x in
+    let n = c.if-d-m in
+    let place : (n.d < m) × (n.i * m + n.d ≡ 8 * (l.x-index + 1)) = elim n.branch [
+      | then-d-m w ↦ (omega arith, omega (arith, l.invariant.1, ap (λ (i : ℕ). i * m) w.i-is))
+      | else-d-m w ↦ (omega arith, omega (arith, l.invariant.1, ap (λ (i : ℕ). i * m) w.i-is))
+    ] in
+    let v : c.byte.result ≡ value 8 (from (8 * l.x-index) (flat m (rows_of c.args.self.words))) = c.byte.ensures ∙ ap (λ (at : ℕ). value 8 (from at (flat m (rows_of c.args.self.words)))) l.invariant.1 in (
+      place.0,
+      place.1,
+      ap (λ (y : List ℕ). set y l.x-index c.byte.result) l.invariant.2 ∙ put_next c.args.s.now l.x-index c.byte.result _ (omega arith) v,
+    )
 
 pub returns : goal.returns
 returns c =
     let a = c.args in
-    let l = c.loop-k in
-    let e : l.k ≡ length a.s.now = omega arith in
-    l.invariant ∙ ap (λ (k : ℕ). put a.s.now 0 (bytes k (flat a.m (rows_of a.self.words)))) e
+    let l = c.loop-x in
+    let e : l.x-index ≡ length a.s.now = omega arith in
+    l.invariant.2 ∙ ap (λ (k : ℕ). put a.s.now 0 (bytes k (flat a.m (rows_of a.self.words)))) e
     ∙ rows_all a.s.now a.m a.n a.self.words (omega arith) c.requires.3 c.requires.4

@@ -1,9 +1,10 @@
 -- `bits::Strip::write` meets its contract.
 use mathlib.Core.Path.{◌≡◌}
+use Prim.Native.Nat.{◌+◌, ◌*◌, ◌<◌}
 use Rattle.slices.specs.Slices.{put}
 use Rattle.bits.specs.Bytes.{bytes}
 use Rattle.bits.specs.Rows.{flat, rows_of}
 use Rattle.bits.proofs.Strip.write.Given as goal
 
-abbrev pub invariant-loop-k : goal.invariant-loop-k
-invariant-loop-k l = l.s ≡ put l.initial.s 0 (bytes l.k (flat l.m (rows_of l.self.words)))
+abbrev pub invariant-loop-x : goal.invariant-loop-x
+invariant-loop-x l = (l.d < l.m) × (l.i * l.m + l.d ≡ 8 * l.x-index) × (l.s ≡ put l.initial.s 0 (bytes l.x-index (flat l.m (rows_of l.self.words))))
