@@ -33,11 +33,11 @@ fn main(rt: HostRuntime) -> io::Result<()> {
     let mut bytes = [0u8; ROOM];
     let n = input::fill(&mut rt.reader(), &mut bytes)?;
     let mut form = [0u8; ROOM];
-    let answer = signature::read(1, &bytes[..n], &mut form);
-    // The upper half of an answer is the number of a refusal, or 0.
-    let refusal = answer / 0x1_0000_0000;
-    if refusal != 0 {
-        return println!(rt; "refused\t{refusal}");
+    match signature::read(1, &bytes[..n], &mut form) {
+        Ok(_) => print_layout(&rt, n, &form[..VALUES]),
+        Err(refusal) => {
+            let number = u64::from(refusal);
+            println!(rt; "refused\t{number}")
+        }
     }
-    print_layout(&rt, n, &form[..VALUES])
 }
