@@ -6,5 +6,5 @@ use Rattle.bits.specs.Bytes.{bytes}
 use Rattle.bits.specs.Rows.{flat, rows_of}
 use Rattle.bits.proofs.Strip.write.Given as goal
 
-abbrev pub invariant-loop-x : goal.invariant-loop-x
-invariant-loop-x l = (l.d < l.m) × (l.i * l.m + l.d ≡ 8 * l.x-index) × (l.s ≡ put l.initial.s 0 (bytes l.x-index (flat l.m (rows_of l.self.words))))
+abbrev pub invariant-loop-b : goal.invariant-loop-b
+invariant-loop-b l = (l.d < l.m) × (l.i * l.m + l.d ≡ 8 * l.b-index) × (l.s ≡ put l.initial.s 0 (bytes l.b-index (flat l.m (rows_of l.self.words))))
