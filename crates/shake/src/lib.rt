@@ -16,6 +16,7 @@ pub struct Sponge {
 
 impl Sponge {
     // Nothing taken in. SHAKE128 has the rate 168, SHAKE256 the rate 136.
+    #[tactic(auto, unfolding(crate::specs::Sponge::started))]
     pub fn new(rate: usize) -> Self
         requires { Rate rate }
         ensures { (result ≡ started rate) × Taking result }
@@ -68,6 +69,7 @@ impl Sponge {
     }
 
     // The message is ended: here the suffix and the first bit of the padding, its last bit at the end of the block.
+    #[tactic(auto, unfolding(crate::specs::Sponge::padded))]
     pub fn pad(mut self) -> Self
         requires { Taking self }
         ensures { (result ≡ padded self) × Giving result }
