@@ -1,5 +1,5 @@
 -- Laws of the bytes of a number, and of the words of a byte string.
-use mathlib.Core.Path.{◌≡◌, refl, sym, ap, ◌∙◌}
+use mathlib.Core.Path.{◌≡◌, refl, ap, ◌∙◌}
 use mathlib.Core.List.{[], ◌∷◌, ◌++◌}
 use Prim.Native.Nat.{ℕ, zero, suc, ◌+◌, ◌*◌, ◌/◌, ◌%◌, ◌^◌, ◌<◌}
 use native.Mathlib.Omega.{arith}
@@ -48,15 +48,6 @@ octets-append (suc m) n w =
     rw suc-add
     (ap (λ (l : Bytes). w % 256 ∷ l)
     (octets-append m n (w / 256) ∙ ap (λ (x : ℕ). octets m (w / 256) ++ octets n x) (shr-shr w 8 (8 * m) ∙ ap (λ (k : ℕ). w / 2 ^ k) e)))
-
--- one of them
-pub get_or-octets : (n t w : ℕ) → t < n → get_or (octets n w) t 0 ≡ w / 2 ^ (8 * t) % 256
-unfolding octets
-get_or-octets zero t w h = absurd (omega arith)
-get_or-octets (suc n) zero w h = ap (λ (x : ℕ). x % 256) (sym (div-one w))
-get_or-octets (suc n) (suc t) w h =
-    let e : 8 + 8 * t ≡ 8 * suc t = omega arith in
-    get_or-octets n t (w / 256) (omega arith) ∙ ap (λ (x : ℕ). x % 256) (shr-shr w 8 (8 * t) ∙ ap (λ (k : ℕ). w / 2 ^ k) e)
 
 -- ---- the eight bytes of a word
 

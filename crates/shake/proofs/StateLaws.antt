@@ -231,10 +231,3 @@ over-bytes_at-all s t a j n h e = e ∙ over-whole (bytes_at a j n) s (length-by
 pub put_mid-put : (s p : Bytes) (i k : ℕ) → length p ≡ k → put_mid i k s p ≡ put s i p
 unfolding put
 put_mid-put s p i k h = ap (λ (x : Bytes). take i s ++ (p ++ x)) (drop-drop k i s ∙ ap (λ (n : ℕ). drop (i + n) s) (sym h))
-
--- m of them at the start of s, and the others behind them
-pub bytes_at-both : (s t p : Bytes) (a : Lanes) (j m n k : ℕ) → m + n ≡ length s → k ≡ n → t ≡ over (bytes_at a j m) s → p ≡ bytes_at a (j + m) n
-    → put_mid m k t p ≡ bytes_at a j (length s)
-bytes_at-both s t p a j m n k z h e f =
-    put_mid-put t p m k (ap length f ∙ length-bytes_at a (j + m) n ∙ sym h)
-    ∙ over-bytes_at-all s _ a j (m + n) z (over-bytes_at s t a j m n p (omega arith) e f) ∙ ap (bytes_at a j) z

@@ -16,6 +16,7 @@ pub struct Sponge {
 
 impl Sponge {
     // Nothing taken in. SHAKE128 has the rate 168, SHAKE256 the rate 136.
+    #[tactic(auto, unfolding(crate::specs::Sponge::started))]
     pub fn new(rate: usize) -> Self
         requires { Rate rate }
         ensures { (result ≡ started rate) × Taking result }
@@ -45,6 +46,7 @@ impl Sponge {
     }
 
     // One byte is taken in. Not by absorb, which takes longer for so few bytes.
+    #[tactic(auto, unfolding(crate::specs::Sponge::absorbed, crate::specs::Sponge::absorbed_byte))]
     pub fn absorb_byte(mut self, b: u8) -> Self
         requires { Taking self }
         ensures { (result ≡ absorbed self (b ∷ [])) × Taking result }
@@ -68,6 +70,7 @@ impl Sponge {
     }
 
     // The message is ended: here the suffix and the first bit of the padding, its last bit at the end of the block.
+    #[tactic(auto, unfolding(crate::specs::Sponge::padded))]
     pub fn pad(mut self) -> Self
         requires { Taking self }
         ensures { (result ≡ padded self) × Giving result }
@@ -80,6 +83,7 @@ impl Sponge {
     }
 
     // There is a byte to give: where the block is spent, the next one is made.
+    #[tactic(auto, unfolding(crate::specs::Sponge::ready))]
     fn refill(&mut self)
         requires { Giving self.old }
         ensures { (self.new ≡ ready self.old) × (self.new.at < self.new.rate) × Rate self.new.rate }
@@ -90,7 +94,7 @@ impl Sponge {
         }
     }
 
-    // out is filled with the next bytes.
+    // out is filled with the next bytes. A turn gives what is left of a block, so the place in out is no count of turns.
     pub fn squeeze(mut self, out: &mut [u8]) -> Self
         requires { Giving self }
         ensures { (result ≡ squeezed self (length out.old)) × (out.new ≡ given self (length out.old)) × Giving result }

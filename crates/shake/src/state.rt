@@ -39,6 +39,7 @@ pub fn add_part(a: &mut [u64; 25], j: usize, s: &[u8])
 }
 
 // Byte j of the state. By a shift: an index into the bytes of the lane would store them first.
+#[tactic(auto, unfolding(crate::specs::Shake::byte_at))]
 fn byte_of(a: &[u64; 25], j: usize) -> u8
     requires { j < 200 }
     ensures { result ≡ byte_at a.now j }
