@@ -3,8 +3,8 @@
 
 mod state;
 
-ghost use Rattle.std.specs.Prelude.{◌≡◌, [], ◌∷◌, ◌/◌, ◌%◌, ◌<◌, min, length};
-ghost use Rattle.shake.specs.Sponge.{sponge, started, absorbed_byte, absorbed, padded, ready, given, squeezed, Rate, Taking, Giving};
+ghost use Rattle.std.specs.Prelude.{◌≡◌, [], ◌∷◌, ◌/◌, ◌%◌, ◌<◌, length};
+ghost use Rattle.shake.specs.Sponge.{started, absorbed, padded, ready, given, squeezed, Rate, Taking, Giving};
 
 // The state, the place in its block, and the length of a block in bytes.
 #[derive(Clone, Copy)]
