@@ -1,6 +1,5 @@
 -- `signer::sign_known` meets its contract.
 use mathlib.Core.Path.{sym, ◌∙◌}
-use Rattle.lowmc.specs.Encrypted.{plaintext}
 use Rattle.signer.proofs.SignLaws.{handed, fitting, stopped, unpaired, signed}
 use borrow.Author.Rules.{rules}
 use Rattle.signer.proofs.sign_known.Goals as goal
@@ -9,36 +8,39 @@ pub returns-then-not-fine : goal.returns-then-not-fine
 returns-then-not-fine c =
     λ set e. stopped _ _ e c.refused-why.ensures (sym c.fine.ensures ∙ c.if-not-fine.true) c.answer.ensures
 
+pub invariant_of-tables : goal.invariant_of-tables
+invariant_of-tables c =
+    let a = c.args in
+    let g = handed 0 a.keys.now a.layers.now a.constants.now a.secret.now a.public.now a.message.now a.limit a.seeds.now a.room.now a.output.now in
+    record { lent = (fitting c.requires g _ c.refused-why.ensures (sym c.fine.ensures ∙ c.if-not-fine.false)).lent }
+
 pub traced-requires : goal.traced-requires
 traced-requires c =
     let a = c.args in
     let g = handed 0 a.keys.now a.layers.now a.constants.now a.secret.now a.public.now a.message.now a.limit a.seeds.now a.room.now a.output.now in
     let f = fitting c.requires g _ c.refused-why.ensures (sym c.fine.ensures ∙ c.if-not-fine.false) in
-    (f.lent, f.secret-wide, f.public-long, search rules)
+    (f.secret-wide, f.public-long, search rules)
 
-pub paired-requires : goal.paired-requires
-paired-requires c =
+pub invariant_of-signing : goal.invariant_of-signing
+invariant_of-signing c =
     let a = c.args in
     let g = handed 0 a.keys.now a.layers.now a.constants.now a.secret.now a.public.now a.message.now a.limit a.seeds.now a.room.now a.output.now in
     let f = fitting c.requires g _ c.refused-why.ensures (sym c.fine.ensures ∙ c.if-not-fine.false) in
-    (c.requires, search rules, f.public-long)
+    record {
+      ready = record { lent = f.lent; secret-wide = f.secret-wide; public-long = f.public-long; seeds-long = f.seeds-long; traced = c.traced.ensures; states_long = search rules };
+    }
 
 pub returns-then-not-paired : goal.returns-then-not-paired
 returns-then-not-paired c =
-    let b = c.paired.ensures c.args.keys.now c.args.layers.now c.args.constants.now c.args.secret.now (plaintext c.args.p c.args.public.now) c.traced.ensures in
-    λ set e. unpaired _ _ e c.refused-why.ensures (sym c.fine.ensures ∙ c.if-not-fine.false) (sym b ∙ c.if-not-paired.true) c.answer-then-not-paired.ensures
+    λ set e. unpaired _ _ e c.refused-why.ensures (sym c.fine.ensures ∙ c.if-not-fine.false) (sym c.paired.ensures ∙ c.if-not-paired.true) c.answer-then-not-paired.ensures
 
 pub sign_ready-requires : goal.sign_ready-requires
 sign_ready-requires c =
     let a = c.args in
     let g = handed 0 a.keys.now a.layers.now a.constants.now a.secret.now a.public.now a.message.now a.limit a.seeds.now a.room.now a.output.now in
-    let f = fitting c.requires g _ c.refused-why.ensures (sym c.fine.ensures ∙ c.if-not-fine.false) in (
-      record { lent = f.lent; secret-wide = f.secret-wide; public-long = f.public-long; seeds-long = f.seeds-long; traced = c.traced.ensures; states_long = search rules },
-      f.room-enough,
-      f.output-enough,
-    )
+    let f = fitting c.requires g _ c.refused-why.ensures (sym c.fine.ensures ∙ c.if-not-fine.false) in
+    (f.room-enough, f.output-enough)
 
 pub returns : goal.returns
 returns c =
-    let b = c.paired.ensures c.args.keys.now c.args.layers.now c.args.constants.now c.args.secret.now (plaintext c.args.p c.args.public.now) c.traced.ensures in
-    λ set e. signed _ _ e c.refused-why.ensures (sym c.fine.ensures ∙ c.if-not-fine.false) (sym b ∙ c.if-not-paired.false) (c.sign_ready.ensures set)
+    λ set e. signed _ _ e c.refused-why.ensures (sym c.fine.ensures ∙ c.if-not-fine.false) (sym c.paired.ensures ∙ c.if-not-paired.false) (c.sign_ready.ensures set)

@@ -1,0 +1,23 @@
+-- `signer::signing::Signing::write_shown` meets its contract.
+use mathlib.Core.Path.{ap, ◌∙◌}
+use Rattle.slices.specs.Slices.{put}
+use Rattle.circuit.specs.Round.{next, third}
+use Rattle.lowmc.specs.Encrypted.{plaintext}
+use Rattle.shape.specs.Form.{Shown, round_of}
+use Rattle.views.specs.Parties.{party_of}
+use Rattle.signer.proofs.WriteLaws.{number_after, number-last, shown_as}
+use Rattle.signer.proofs.signing.Signing.write_shown.Goals as goal
+
+pub returns : goal.returns
+returns c =
+    let a = c.args in
+    let s = a.self.now in
+    let p = s.tables.set in (
+      c.write_parts.ensures.0,
+      c.write_parts.ensures.1
+          ∙ ap (λ (u : Shown). put a.output.now a.at (round_of p a.e u))
+          (shown_as p s.tables.keys.now s.tables.layers.now s.tables.constants.now s.secret.now (plaintext p s.public.now) s.seeds.now a.t a.e
+          a.x.now _ _ _ c.requires.2
+          (c.commitment_of-commitment.ensures (third (party_of a.e)) (number-last a.e c.requires.1))
+          (c.said_of-transcript.ensures (next (party_of a.e)) (number_after a.e c.requires.1)) c.shown_share-share.ensures),
+    )
