@@ -10,14 +10,14 @@ use Rattle.round.specs.Engine.{said, Written}
 use Rattle.round.proofs.EngineLaws.{three}
 use Rattle.signer.proofs.in_bytes.Goals as goal
 
-pub transcribed-said0-requires : goal.transcribed-said0-requires
-transcribed-said0-requires c = (c.requires.0, c.requires.1 party0)
+pub transcribed-requires : goal.transcribed-requires
+transcribed-requires c = (c.requires.0, c.requires.1 party0)
 
-pub transcribed-said1-requires : goal.transcribed-said1-requires
-transcribed-said1-requires c = (c.requires.0, c.requires.1 party1)
+pub transcribed-requires-2 : goal.transcribed-requires-2
+transcribed-requires-2 c = (c.requires.0, c.requires.1 party1)
 
-pub transcribed-said2-requires : goal.transcribed-said2-requires
-transcribed-said2-requires c = (c.requires.0, c.requires.1 party2)
+pub transcribed-requires-3 : goal.transcribed-requires-3
+transcribed-requires-3 c = (c.requires.0, c.requires.1 party2)
 
 pub returns : goal.returns
 returns c =
@@ -26,5 +26,5 @@ returns c =
       refl,
       refl,
       three (λ j. (u : Rows) → Written (3 * p.s) p.r u (said a.v j) → take (transcript_length p) _ ≡ bytes_of (3 * p.s * p.r) (flat (3 * p.s) u))
-          c.transcribed-said0.ensures c.transcribed-said1.ensures c.transcribed-said2.ensures,
+          c.transcribed.ensures c.transcribed-2.ensures c.transcribed-3.ensures,
     )

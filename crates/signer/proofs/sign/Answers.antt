@@ -1,6 +1,5 @@
 -- `signer::sign` meets its contract.
 use mathlib.Core.Path.{refl, sym, ap, ◌∙◌}
-use borrow.Author.Rules.{rules}
 use Rattle.sets.proofs.Each.{known_set}
 use Rattle.answers.specs.Answers.{back}
 use Rattle.answers.proofs.OutcomeLaws.{handed_on, no_such_set}
@@ -31,7 +30,7 @@ traced-requires c =
     let a = c.args in
     let g = handed 0 a.keys.now a.layers.now a.constants.now a.secret.now a.public.now a.message.now a.limit a.seeds.now a.room.now a.output.now in
     let f = fitting (known_set a.set _ (sym c.numbered.ensures ∙ c.in_ok-p.ensures.ok_part)) g (sym c.in_ok-check_lengths.ensures) in
-    (f.secret-wide, f.public-long, search rules)
+    (f.secret-wide, f.public-long)
 
 pub invariant_of-signing : goal.invariant_of-signing
 invariant_of-signing c =
@@ -39,7 +38,7 @@ invariant_of-signing c =
     let g = handed 0 a.keys.now a.layers.now a.constants.now a.secret.now a.public.now a.message.now a.limit a.seeds.now a.room.now a.output.now in
     let f = fitting (known_set a.set _ (sym c.numbered.ensures ∙ c.in_ok-p.ensures.ok_part)) g (sym c.in_ok-check_lengths.ensures) in
     record {
-      ready = record { lent = f.lent; secret-wide = f.secret-wide; public-long = f.public-long; seeds-long = f.seeds-long; traced = c.traced.ensures; states_long = search rules };
+      ready = record { lent = f.lent; secret-wide = f.secret-wide; public-long = f.public-long; seeds-long = f.seeds-long; traced = c.traced.ensures };
     }
 
 pub returns-then-not-paired : goal.returns-then-not-paired
