@@ -1,4 +1,4 @@
--- Laws of a round that is played: which party a number names, and what it has on words and in bytes.
+-- Laws of a round that is played: what it has on words and in bytes.
 use mathlib.Core.Path.{◌≡◌, refl, sym, ap, ◌∙◌, subst}
 use mathlib.Core.Bool.{false}
 use mathlib.Core.List.{List}
@@ -15,7 +15,7 @@ use Rattle.sets.specs.declared.Set.{Set}
 use Rattle.sets.specs.Sets.{IsSet}
 use Rattle.circuit.specs.Lowmc.{Cipher, state_after}
 use Rattle.circuit.specs.Round.{Party, party0, party1, party2, by_party}
-use Rattle.circuit.specs.Tapes.{party_number, gate_bits}
+use Rattle.circuit.specs.Tapes.{gate_bits}
 use Rattle.round.specs.declared.Shares.{Shares}
 use Rattle.round.specs.declared.View.{View}
 use Rattle.round.specs.Engine.{share_in, said, Written, Traced, Simulated}
@@ -27,24 +27,6 @@ use Rattle.views.specs.Signed.{shares, share_bits, gate_rows, outputs, transcrip
 use Rattle.room.proofs.LengthLaws.{length_three}
 use Rattle.signer.specs.declared.Played.{Played}
 use Rattle.signer.specs.Played.{said_by, PlayedAs}
-
--- ---- which party a number names
-
-module _ {A : Type 0} (f : Party → A) (j : ℕ) where
-  pub at_zero : j ≡ 0 → (k : Party) → j ≡ party_number k → f party0 ≡ f k
-  at_zero h party0 e = refl
-  at_zero h party1 e = absurd (omega arith)
-  at_zero h party2 e = absurd (omega arith)
-
-  pub at_one : j ≡ 1 → (k : Party) → j ≡ party_number k → f party1 ≡ f k
-  at_one h party0 e = absurd (omega arith)
-  at_one h party1 e = refl
-  at_one h party2 e = absurd (omega arith)
-
-  pub at_two : (j ≡ 0 → ⊥) → (j ≡ 1 → ⊥) → (k : Party) → j ≡ party_number k → f party2 ≡ f k
-  at_two g h party0 e = absurd (g e)
-  at_two g h party1 e = absurd (h e)
-  at_two g h party2 e = refl
 
 -- ---- input shares as bytes
 
