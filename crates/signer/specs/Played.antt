@@ -25,10 +25,6 @@ pub record PlayedAs (L : Cipher) (secret : Bytes) (tapes : Party → Bytes) (p :
   pub outputs : (j : Party) → bytes_of L.n (share_in r.outputs j) ≡ outputs L secret tapes p j
   pub said : (j : Party) → take (width (gate_bits L)) (said_by r j) ≡ transcripts L secret tapes p j
 
--- three tapes, each at the start of bytes
-abbrev pub tapes_in : Cipher → (t0 t1 t2 : Bytes) → Party → Bytes
-tapes_in L t0 t1 t2 = by_party (take (tape_length L party0) t0) (take (tape_length L party1) t1) (take (tape_length L party2) t2)
-
 -- what the checks of lengths leave for the rounds, and the states of the encryption
 pub record Ready (set : Set) (keys layers constants secret public seeds : Bytes) (states : List Block) : Type 0 where
   pub lent : Lent set keys layers constants
