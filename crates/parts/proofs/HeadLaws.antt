@@ -2,7 +2,7 @@
 use mathlib.Core.Path.{◌≡◌, refl, sym, ap, ◌∙◌}
 use mathlib.Core.Bool.{Bool, true, false, not, ◌&&◌}
 use mathlib.Core.List.{List, [], ◌∷◌, map}
-use Prim.Native.Nat.{ℕ, ◌+◌, ◌*◌, ◌≤◌, ◌<◌}
+use Prim.Native.Nat.{ℕ, ◌*◌, ◌≤◌, ◌<◌}
 use native.Mathlib.Omega.{arith}
 use Rattle.std.specs.List.{list_all, range_with_len}
 use Rattle.std.proofs.lemmas.List.FromFn.{fill_by_all}
@@ -40,6 +40,3 @@ module _ (p : Set) (s : Bytes) (a : Bool) (e : a ≡ all is_value (values p s)) 
   pub header_failed : a ≡ false → not a ≡ header_wrong p s
   unfolding header_wrong
   header_failed h = rw (← e, h)
-
-pub header_inside : (p : Set) (n : ℕ) → 0 < p.t → p.t ≤ 438 → header_length p ≤ n → (0 < 2 * p.t) × ((2 * p.t ≤ 65536) × (0 + header_length p ≤ n))
-header_inside p n h l g = (omega arith, (omega arith, omega arith))

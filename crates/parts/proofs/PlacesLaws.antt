@@ -16,20 +16,6 @@ use Rattle.parts.specs.declared.Parts.{Parts}
 use Rattle.parts.specs.declared.Cursor.{Cursor}
 use Rattle.parts.specs.Places.{parts_at, Ordered, Stands, Located}
 
--- the places from the lengths that a set gives
-pub placed : (p : Set) (e at t s l n : ℕ) → t ≡ transcript_length p → s ≡ seed_width p → l ≡ round_least p → n ≡ sizes (round_fields p e)
-    → ◌≡◌ {A = Parts}
-    (record {
-      commitment = at;
-      transcript = at + p.digest;
-      seed1 = at + p.digest + t;
-      seed2 = at + p.digest + t + s;
-      share = at + l;
-      next = at + n;
-    })
-    (parts_at p e at)
-placed p e at t s l n et es el en = rw (et, es, el, en)
-
 -- a cursor at the first round stands
 pub stands-first : (p : Set) (s : Bytes) (c : Cursor) → c.round ≡ 0 → c.at ≡ header_length p + salt_length → Stands p s c
 stands-first p s c e a = a ∙ (sym (start_first p (values p s)) ∙ ap (round_start p (values p s)) (sym e))

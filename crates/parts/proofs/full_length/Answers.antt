@@ -3,13 +3,10 @@ use mathlib.Core.Path.{ap}
 use Prim.Native.Nat.{ℕ, ◌+◌}
 use native.Mathlib.Omega.{arith}
 use Rattle.shape.proofs.RoundsLaws.{sizes_bounds}
-use Rattle.shape.proofs.SetFacts.{header_length≤, round_most≤}
+use Rattle.shape.proofs.SetFacts.{round_most≤}
 use Rattle.parts.proofs.HeadLaws.{value_inside}
 use Rattle.parts.proofs.WalkLaws.{reached-first, reached-more, reached_end, reached-most}
 use Rattle.parts.proofs.full_length.Goals as goal
-
-pub overflow_add-at : goal.overflow_add-at
-overflow_add-at c = omega (arith, header_length≤ c.requires.0)
 
 pub loop-k-init : goal.loop-k-init
 loop-k-init c = reached-first _ _ _ (ap (λ (n : ℕ). n + 32) c.header-at.ensures)

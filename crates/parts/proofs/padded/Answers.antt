@@ -1,6 +1,5 @@
 -- `parts::padded` meets its contract.
-use Rattle.std.proofs.Common.{arith, rules, ◌≡◌, ◌+◌, ◌-◌, ◌*◌, ◌/◌}
-use lib.Pow.{pow_pos}
+use Rattle.std.proofs.Common.{arith, rules, ◌≡◌, ◌+◌, ◌-◌, ◌/◌}
 use Rattle.bits.specs.Bytes.{width}
 use Rattle.parts.proofs.PaddedLaws.{padded_byte, unit}
 use Rattle.parts.proofs.padded.Goals as goal
@@ -8,11 +7,6 @@ use Rattle.parts.proofs.padded.Goals as goal
 pub bounds-s-last : goal.bounds-s-last
 unfolding width
 bounds-s-last c = search rules
-
-pub nonzero_rem-result : goal.nonzero_rem-result
-nonzero_rem-result c =
-    let n : c.div_ceil-n.result ≡ (c.args.m + 7) / 8 = omega (arith, c.div_ceil-n.ensures) in
-    rw (unit c.args.m _ n) (pow_pos (8 * c.div_ceil-n.result - c.args.m))
 
 pub returns : goal.returns
 returns c =

@@ -4,13 +4,10 @@ use Prim.Native.Nat.{ℕ, ◌+◌}
 use native.Mathlib.Omega.{arith}
 use Rattle.shape.proofs.RoundsLaws.{sizes_bounds}
 use Rattle.shape.proofs.RoundTripsProof.{exact-long}
-use Rattle.shape.proofs.SetFacts.{digest≤, header_length≤, round_most≤}
+use Rattle.shape.proofs.SetFacts.{digest≤, round_most≤}
 use Rattle.parts.proofs.HeadLaws.{value_inside}
 use Rattle.parts.proofs.WalkLaws.{transcript-within, reached-most, padded-first, padded-more, padded_fails, padded_end}
 use Rattle.parts.proofs.padding_wrong.Goals as goal
-
-pub overflow_add-at : goal.overflow_add-at
-overflow_add-at c = omega (arith, header_length≤ c.requires.0)
 
 pub loop-k-init : goal.loop-k-init
 loop-k-init c = padded-first _ _ _ (ap (λ (n : ℕ). n + 32) c.header-at.ensures)

@@ -1,12 +1,8 @@
 -- `parts::places` meets its contract.
 use native.Mathlib.Omega.{arith}
 use Rattle.shape.proofs.RoundsLaws.{sizes_bounds}
-use Rattle.shape.proofs.SetFacts.{digest≤, round_most≤}
-use Rattle.parts.proofs.PlacesLaws.{placed}
+use Rattle.shape.proofs.SetFacts.{round_most≤}
 use Rattle.parts.proofs.places.Goals as goal
-
-pub overflow_add-transcript : goal.overflow_add-transcript
-overflow_add-transcript c = omega (arith, digest≤ c.requires.0)
 
 pub overflow_add-seed1 : goal.overflow_add-seed1
 overflow_add-seed1 c = omega (arith, round_most≤ c.requires.0)
@@ -20,8 +16,3 @@ overflow_add-result-2 c = omega (arith, round_most≤ c.requires.0)
 pub overflow_add-result-3 : goal.overflow_add-result-3
 overflow_add-result-3 c =
     omega (arith, round_most≤ c.requires.0, sizes_bounds c.args.p c.args.e)
-
-pub returns : goal.returns
-returns c =
-    placed c.args.p c.args.e c.args.at _ _ _ _ c.transcript.ensures
-    c.seed_width.ensures c.round_least.ensures c.round_length.ensures
