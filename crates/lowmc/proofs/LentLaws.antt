@@ -2,11 +2,11 @@
 use mathlib.Core.Path.{◌≡◌, refl, sym, ap, ap₂, ◌∙◌}
 use mathlib.Core.Bool.{false}
 use Prim.Native.Nat.{ℕ, ◌+◌, ◌-◌, ◌*◌, ◌≤◌, ◌<◌}
-use native.Mathlib.Nat.{mul-le-mul_right, le-mul_of_pos_right, add-mul, one-mul}
+use native.Mathlib.Nat.{mul-le-mul_right, add-mul, one-mul, mul_assoc}
 use native.Mathlib.Omega.{arith}
 use lib.ListN.{length, take, drop, length-take, length-drop}
 use lib.Seq.{length-take-le}
-use Rattle.slices.specs.Slices.{Bytes}
+use Rattle.slices.specs.Slices.{Bytes, part}
 use Rattle.bits.specs.Bits.{Bits}
 use Rattle.bits.specs.Bytes.{bits_of, width}
 use Rattle.bits.proofs.BytesLaws.{bits_past}
@@ -56,10 +56,6 @@ row_end g w = sym (add-mul g 1 w ∙ ap (λ (k : ℕ). g * w + k) (one-mul w))
 pub row_room : (g h w : ℕ) → g < h → g * w + w ≤ h * w
 row_room g h w l = rw (row_end g w) (mul-le-mul_right {m = g + 1} {n = h} w (omega arith))
 
--- a matrix of n rows ends where the next begins
-pub matrix_end : (k n w : ℕ) → k * n * w + n * w ≡ (k + 1) * n * w
-matrix_end k n w = sym (ap (λ (m : ℕ). m * w) (sym (row_end k n)) ∙ add-mul (k * n) n w)
-
 -- a matrix lies in a table that holds more
 pub matrix-room : (k r n w : ℕ) → k < r → (k + 1) * n * w ≤ r * n * w
 matrix-room k r n w l =
@@ -75,50 +71,40 @@ module _ (t : Tables) (k : ℕ) where
 
 -- ---- lent parts, at the width x that the code computes
 
--- a part from where it begins to where it ends
-pub part-long : (l : Bytes) (at n : ℕ) → at + n ≤ length l → length (take (at + n - at) (drop at l)) ≡ n
-part-long l at n h =
-    let d : at + n - at ≡ n = omega arith in
-    rw d (length-take-le n (drop at l) (omega (arith, length-drop at l)))
+-- piece i of pieces of n bytes has n bytes
+pub length_piece : (l : Bytes) (i n : ℕ) → (i + 1) * n ≤ length l → length (part l (i * n) n) ≡ n
+length_piece l i n h = length-take-le n (drop (i * n) l) (omega (arith, length-drop (i * n) l, row_end i n))
 
 -- matrix k of a table
 module _ {p : Set} (h : IsSet p) (x : ℕ) (e : x ≡ w p) (k : ℕ) (l : Bytes) (room : (k + 1) * p.n * w p ≤ length l) where
-  pub matrix_in : k * p.n * x + p.n * x ≤ length l
-  matrix_in = rw (e, matrix_end k p.n (w p)) room
+  pub matrix_in : (k + 1) * (p.n * x) ≤ length l
+  matrix_in = rw (e, ← mul_assoc (k + 1) p.n (w p)) room
 
-  -- the number of its first row
-  pub first_in : k * p.n ≤ length l
-  first_in = omega (arith, matrix_in, (words h).least, le-mul_of_pos_right {m = x} (k * p.n) (omega (arith, (words h).least)))
-
-  pub rows_in : Words x × (length (take (k * p.n * x + p.n * x - k * p.n * x) (drop (k * p.n * x) l)) ≡ 8 * x * x)
-  rows_in =
+  pub rows_in : (m : Bytes) → m ≡ part l (k * (p.n * x)) (p.n * x) → Words x × (length m ≡ 8 * x * x)
+  rows_in m q =
       let n : p.n ≡ 8 * x = whole h ∙ ap (λ (y : ℕ). 8 * y) (sym e) in
-      (rw e (words h), part-long l (k * p.n * x) (p.n * x) matrix_in ∙ ap (λ (y : ℕ). y * x) n)
+      (rw e (words h), ap length q ∙ length_piece l k (p.n * x) matrix_in ∙ ap (λ (y : ℕ). y * x) n)
 
   -- the product that is computed of it
-  pub product_of : (v r : Bits)
-      → r ≡ product (8 * x) (row x (take (k * p.n * x + p.n * x - k * p.n * x) (drop (k * p.n * x) l))) v
-      → r ≡ product p.n (matrix_of p.n l k) v
+  pub product_of : (m : Bytes) → m ≡ part l (k * (p.n * x)) (p.n * x) → (v r : Bits) → r ≡ product (8 * x) (row x m) v → r ≡ product p.n (matrix_of p.n l k) v
   unfolding matrix_of matrix
-  product_of v r q =
-      let m : k * p.n * w p + p.n * w p - k * p.n * w p ≡ p.n * w p = omega arith in
-      q ∙ (ap (λ (y : ℕ). product (8 * y) (row y (take (k * p.n * y + p.n * y - k * p.n * y) (drop (k * p.n * y) l))) v) e
-      ∙ ap₂ (λ (a b : ℕ). product a (row (w p) (take b (drop (k * p.n * w p) l))) v) (sym (whole h)) m)
+  product_of m q v r is =
+      is ∙ (ap (λ (s : Bytes). product (8 * x) (row x s) v) q
+      ∙ ap (λ (y : ℕ). product (8 * y) (row y (part l (k * (p.n * y)) (p.n * y))) v) e
+      ∙ ap₂ (λ (a b : ℕ). product a (row (w p) (part l b (p.n * w p))) v) (sym (whole h)) (sym (mul_assoc k p.n (w p))))
 
 -- constant i
 module _ {p : Set} (h : IsSet p) (x : ℕ) (e : x ≡ w p) (i : ℕ) (l : Bytes) (long : length l ≡ constants_length p) (less : i < p.r) where
-  pub constant_in : i * x + x ≤ length l
-  constant_in = rw (e, long) (row_room i p.r (w p) less)
+  pub constant_in : (i + 1) * x ≤ length l
+  constant_in = rw (e, long) (mul-le-mul_right {m = i + 1} {n = p.r} (w p) (omega arith))
 
-  pub constant_small : length (take (i * x + x - i * x) (drop (i * x) l)) ≤ 32
-  constant_small = omega (arith, part-long l (i * x) x constant_in, (words h).most)
+  pub constant_small : (s : Bytes) → s ≡ part l (i * x) x → length s ≤ 32
+  constant_small s q = omega (arith, ap length q, length_piece l i x constant_in, (words h).most)
 
   -- what is loaded of it
-  pub constant_of_lem : (r : Bits) → r ≡ bits_of (take (i * x + x - i * x) (drop (i * x) l)) → r ≡ constant_of p.n l i
+  pub constant_of_lem : (s : Bytes) → s ≡ part l (i * x) x → (r : Bits) → r ≡ bits_of s → r ≡ constant_of p.n l i
   unfolding constant_of row
-  constant_of_lem r q =
-      let m : i * w p + w p - i * w p ≡ w p = omega arith in
-      q ∙ (ap (λ (y : ℕ). bits_of (take (i * y + y - i * y) (drop (i * y) l))) e ∙ ap (λ (a : ℕ). bits_of (take a (drop (i * w p) l))) m)
+  constant_of_lem s q r is = is ∙ ap bits_of q ∙ ap (λ (y : ℕ). bits_of (part l (i * y) y)) e
 
 -- a constant has n bits
 pub constant_past : {p : Set} (h : IsSet p) (l : Bytes) (k i : ℕ) → p.n ≤ i → constant_of p.n l k i ≡ false

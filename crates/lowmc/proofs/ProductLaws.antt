@@ -1,15 +1,15 @@
 -- Laws of the product: the count of ones word by word, the word that 64 rows give, and the rows' places.
 use mathlib.Core.Path.{◌≡◌, sym, ap, ap₂, ◌∙◌}
 use mathlib.Core.Bool.{Bool, ◌&&◌}
-use Prim.Native.Nat.{ℕ, ◌+◌, ◌-◌, ◌*◌, ◌%◌, ◌^◌, ◌≤◌, ◌<◌}
+use Prim.Native.Nat.{ℕ, ◌+◌, ◌*◌, ◌%◌, ◌^◌, ◌≤◌, ◌<◌}
 use native.Mathlib.Nat.{lt_of_le_of_lt, lt_of_lt_of_le}
 use native.Mathlib.Numerals.{add-one}
 use native.Mathlib.Omega.{arith}
 use lib.Bits.{bit_and, and_le_l}
 use lib.Count.{ones, ones-le}
-use lib.ListN.{length, get_or, take, drop}
+use lib.ListN.{length, get_or}
 use lib.Pow.{pow_mono}
-use Rattle.slices.specs.Slices.{Bytes}
+use Rattle.slices.specs.Slices.{Bytes, part}
 use Rattle.bits.specs.Bits.{◌⊻◌, Bits, Agree, from}
 use Rattle.bits.specs.Bytes.{odd, digit, bits_of, value}
 use Rattle.bits.specs.Words.{Holds}
@@ -74,7 +74,7 @@ low_digit b t e = digit-odd t ∙ ap digit e
 -- ---- the word that 64 rows give
 
 -- the bytes l of row g of m give its parity
-pub row-digit : (m l : Bytes) (g w : ℕ) (t : Bits) → length l ≡ w → l ≡ take w (drop (g * w) m)
+pub row-digit : (m l : Bytes) (g w : ℕ) (t : Bits) → length l ≡ w → l ≡ part m (g * w) w
     → digit (row_parity (8 * length l) (bits_of l) t) ≡ digit (row_parity (8 * w) (row w m g) t)
 unfolding row
 row-digit m l g w t n e =

@@ -2,6 +2,7 @@
 #![tactic(auto)]
 
 ghost use Rattle.std.specs.Prelude.{◌≡◌, ℕ, ◌+◌, ◌*◌, ◌%◌, ◌^◌, ◌≤◌, ◌<◌, get_or, length};
+ghost use Rattle.slices.specs.Slices.{part};
 ghost use Rattle.bits.specs.Bits.{◌⊕◌, Agree, up_to, from};
 ghost use Rattle.bits.specs.Bytes.{bits_of, odd, digit};
 ghost use Rattle.bits.specs.Words.{word_bits, block_bits, Holds};
@@ -23,6 +24,15 @@ use answers::Refusal;
 use bits::Block;
 use sets::Set;
 pub use tables::Tables;
+
+// Piece i of s, where pieces of n bytes lie one after the other.
+fn piece(s: &[u8], i: usize, n: usize) -> &[u8]
+    requires { (i + 1) * n ≤ length s.now }
+    ensures { result.now ≡ part s.now (i * n) n }
+{
+    let start = i * n;
+    &s[start..start + n]
+}
 
 // The ones in word k of row AND v. Words of v have their first byte lowest, as words of the row have when they are loaded: the
 // order of bytes does not count, and so nothing is turned in the loop over rows.
@@ -87,9 +97,7 @@ fn rows_words<const N: usize>(m: &[u8], w: usize, g: usize, v: [Block; N]) -> [u
     let mut x = [0u64; N];
     // Rows by number: `chunks_exact` counts the bytes that are left as well, an instruction more for each row.
     for j in 0..64 {
-        let start = (g + j) * w;
-        let end = start + w;
-        x = with_row(x, &m[start..end], t);
+        x = with_row(x, piece(m, g + j, w), t);
     }
     x
 }
@@ -127,9 +135,7 @@ pub fn products<const N: usize>(p: Set, table: &[u8], k: usize, v: [Block; N]) -
     ensures { (j : ℕ) → j < N → block_bits (at result j) ≡ product p.n (matrix_of p.n table.now k) (block_bits (at v.entry j)) }
 {
     let w = p.width();
-    let start = k * p.n * w;
-    let end = start + p.n * w;
-    products_rows(&table[start..end], w, v)
+    products_rows(piece(table, k, p.n * w), w, v)
 }
 
 // Every third place of a word, from the first on.

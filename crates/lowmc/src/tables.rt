@@ -5,7 +5,7 @@
 ghost use Rattle.lowmc.specs.Lent.{Lent};
 ghost use Rattle.lowmc.specs.LentProp.{Lent-prop};
 
-use crate::{products, sboxes, xor_each};
+use crate::{piece, products, sboxes, xor_each};
 use bits::Block;
 use sets::Set;
 
@@ -36,10 +36,7 @@ impl Tables<'_> {
         requires { i < self.now.set.r }
         ensures { block_bits result ≡ (cipher self.now).roundconstant i }
     {
-        let w = self.set.width();
-        let at = i * w;
-        let end = at + w;
-        Block::load(&self.constants[at..end])
+        Block::load(piece(self.constants, i, self.set.width()))
     }
 
     // What stands before the first round for each of N keys, with a block c of its own: Kmatrix[0]·key, and c.

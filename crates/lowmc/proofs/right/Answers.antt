@@ -6,9 +6,6 @@ use Rattle.lowmc.proofs.SboxLaws.{right_word, right_block}
 use borrow.Author.Rules.{rules}
 use Rattle.lowmc.proofs.right.Goals as goal
 
-pub split-l-requires : goal.split-l-requires
-split-l-requires c = in_word c.requires
-
 pub returns : goal.returns
 returns c =
     let a = c.args in

@@ -6,9 +6,6 @@ use Rattle.lowmc.proofs.SboxLaws.{sboxes_block}
 use borrow.Author.Rules.{rules}
 use Rattle.lowmc.proofs.sboxes.Goals as goal
 
-pub sbox_word-top-requires : goal.sbox_word-top-requires
-sbox_word-top-requires c = in_word c.requires
-
 pub returns : goal.returns
 returns c =
     let a = c.args in

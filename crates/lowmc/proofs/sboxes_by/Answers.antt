@@ -7,9 +7,6 @@ use Rattle.lowmc.proofs.SboxLaws.{sboxes_by_block}
 use borrow.Author.Rules.{rules}
 use Rattle.lowmc.proofs.sboxes_by.Goals as goal
 
-pub sbox_word_by-top-requires : goal.sbox_word_by-top-requires
-sbox_word_by-top-requires c = in_word c.requires
-
 pub returns : goal.returns
 returns c =
     let a = c.args in
