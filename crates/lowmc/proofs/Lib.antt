@@ -1,3 +1,4 @@
+pub mod VectorsLaws
 pub mod ProductLaws
 pub mod LentLaws
 pub mod LaneLaws

@@ -1,11 +1,12 @@
 // LowMC: products, S-boxes, and the calls over lent tables. No branch and no index depends on a secret bit.
 #![tactic(auto)]
 
-ghost use Rattle.std.specs.Prelude.{◌≡◌, ◌+◌, ◌*◌, ◌%◌, ◌≤◌, ◌<◌, length};
+ghost use Rattle.std.specs.Prelude.{◌≡◌, ℕ, ◌+◌, ◌*◌, ◌%◌, ◌^◌, ◌≤◌, ◌<◌, get_or, length};
 ghost use Rattle.bits.specs.Bits.{◌⊕◌, Agree, up_to, from};
 ghost use Rattle.bits.specs.Bytes.{bits_of, odd, digit};
 ghost use Rattle.bits.specs.Words.{word_bits, block_bits, Holds};
 ghost use Rattle.bits.specs.Inner.{low_bits};
+ghost use Rattle.lowmc.specs.Vectors.{at};
 ghost use Rattle.sets.specs.Sets.{IsSet};
 ghost use Rattle.answers.specs.Answers.{first};
 ghost use Rattle.sets.specs.Lengths.{w};
@@ -55,165 +56,81 @@ fn row_parity(row: &[u8], w: usize, v: Block) -> u32
     row_ones(row, w, v) % 2
 }
 
-// What the 64 rows of m from row g on give with v, the first row's bit highest. Rows have w bytes.
-fn rows_word(m: &[u8], w: usize, g: usize, v: Block) -> u64
-    requires { Words w × (g ≤ 192) × ((g + 64) * w ≤ length m.now) }
-    ensures { Holds (from g (λ i. row_parity (8 * w) (row w m.now i) (block_bits v))) result }
+// Vectors with the bytes of each word in the other order.
+fn turned<const N: usize>(v: [Block; N]) -> [Block; N]
+    ensures { (k : ℕ) → k < N → Agree 256 (low_bits (at result k)) (block_bits (at v.entry k)) }
 {
-    let t = v.turned();
-    let mut x = 0u64;
-    let mut j = 0;
-    while j < 64 {
-        let at = (g + j) * w;
-        let end = at + w;
-        x = x * 2 + row_parity(&m[at..end], w, t) as u64;
-        j += 1;
+    let mut t = v;
+    for x in t.iter_mut() {
+        *x = x.turned();
+    }
+    t
+}
+
+// Words with one bit more: the parity of row AND each of N vectors.
+fn with_row<const N: usize>(x: [u64; N], row: &[u8], w: usize, t: [Block; N]) -> [u64; N]
+    requires { Words w × (length row.now ≡ w) × ((k : ℕ) → k < N → get_or x k 0 * 2 + 1 < 2 ^ 64) }
+    ensures { (k : ℕ) → k < N → get_or result k 0 ≡ get_or x.entry k 0 * 2 + digit (row_parity (8 * w) (bits_of row.now) (low_bits (at t.entry k))) }
+{
+    let mut y = x;
+    for (k, word) in y.iter_mut().enumerate() {
+        *word = *word * 2 + row_parity(row, w, t[k]) as u64;
+    }
+    y
+}
+
+// What the 64 rows of m from row g on give with each of N vectors, the first row's bit highest. Rows have w bytes. A row is read
+// once for all vectors.
+fn rows_words<const N: usize>(m: &[u8], w: usize, g: usize, v: [Block; N]) -> [u64; N]
+    requires { Words w × (g ≤ 192) × ((g + 64) * w ≤ length m.now) }
+    ensures { (k : ℕ) → k < N → Holds (from g (λ i. row_parity (8 * w) (row w m.now i) (block_bits (at v.entry k)))) (get_or result k 0) }
+{
+    let t = turned(v);
+    let mut x = [0u64; N];
+    for j in 0..64 {
+        let start = (g + j) * w;
+        let end = start + w;
+        x = with_row(x, &m[start..end], w, t);
     }
     x
 }
 
-// The 64 bits from bit g on of the product of m, 8 w rows of w bytes, and v: zero bits past the last row.
-fn product_word(m: &[u8], w: usize, g: usize, v: Block) -> u64
+// The 64 bits from bit g on of the products of m, 8 w rows of w bytes, and each of N vectors: zero bits past the last row.
+fn product_words<const N: usize>(m: &[u8], w: usize, g: usize, v: [Block; N]) -> [u64; N]
     requires { Words w × (g ≤ 192) × (g % 64 ≡ 0) × (length m.now ≡ 8 * w * w) }
-    ensures { Holds (from g (product (8 * w) (row w m.now) (block_bits v))) result }
+    ensures { (k : ℕ) → k < N → Holds (from g (product (8 * w) (row w m.now) (block_bits (at v.entry k)))) (get_or result k 0) }
 {
     if 8 * w <= g {
-        return 0;
-    }
-    rows_word(m, w, g, v)
-}
-
-// The product of m, 8 w rows of w bytes, and v.
-fn product_rows(m: &[u8], w: usize, v: Block) -> Block
-    requires { Words w × (length m.now ≡ 8 * w * w) }
-    ensures { block_bits result ≡ product (8 * w) (row w m.now) (block_bits v) }
-{
-    let words = [
-        product_word(m, w, 0, v),
-        product_word(m, w, 64, v),
-        product_word(m, w, 128, v),
-        product_word(m, w, 192, v),
-    ];
-    Block { words }
-}
-
-// The product of matrix k of a table and v.
-pub fn product(p: Set, table: &[u8], k: usize, v: Block) -> Block
-    requires { IsSet p × ((k + 1) * p.n * w p ≤ length table.now) }
-    ensures { block_bits result ≡ product p.n (matrix_of p.n table.now k) (block_bits v) }
-{
-    let w = p.width();
-    let at = k * p.n * w;
-    let end = at + p.n * w;
-    product_rows(&table[at..end], w, v)
-}
-
-// Two blocks, to be multiplied by the same matrices.
-#[derive(Clone, Copy)]
-pub struct Pair {
-    pub a: Block,
-    pub b: Block,
-}
-
-// Two words.
-#[derive(Clone, Copy)]
-struct Two {
-    a: u64,
-    b: u64,
-}
-
-// Two parities.
-#[derive(Clone, Copy)]
-struct Parities {
-    a: u32,
-    b: u32,
-}
-
-// The parities of row AND each of two vectors.
-fn row_parities(row: &[u8], w: usize, v: Pair) -> Parities
-    requires { Words w × (length row.now ≡ w) }
-    ensures { (result.a ≡ digit (row_parity (8 * w) (bits_of row.now) (low_bits v.a)))
-        × (result.b ≡ digit (row_parity (8 * w) (bits_of row.now) (low_bits v.b))) }
-{
-    Parities {
-        a: row_ones(row, w, v.a) % 2,
-        b: row_ones(row, w, v.b) % 2,
-    }
-}
-
-// Two vectors with the bytes of each word in the other order.
-fn turned_both(v: Pair) -> Pair
-    ensures { Agree 256 (low_bits result.a) (block_bits v.a) × Agree 256 (low_bits result.b) (block_bits v.b) }
-{
-    let x = v.a;
-    let y = v.b;
-    let a = x.turned();
-    let b = y.turned();
-    Pair { a, b }
-}
-
-// What the 64 rows of m from row g on give with each of two vectors. A row is read once for both.
-fn rows_words(m: &[u8], w: usize, g: usize, v: Pair) -> Two
-    requires { Words w × (g ≤ 192) × ((g + 64) * w ≤ length m.now) }
-    ensures { Holds (from g (λ i. row_parity (8 * w) (row w m.now i) (block_bits v.a))) result.a
-        × Holds (from g (λ i. row_parity (8 * w) (row w m.now i) (block_bits v.b))) result.b }
-{
-    let t = turned_both(v);
-    let mut x = 0u64;
-    let mut y = 0u64;
-    let mut j = 0;
-    while j < 64 {
-        let at = (g + j) * w;
-        let end = at + w;
-        let d = row_parities(&m[at..end], w, t);
-        x = x * 2 + d.a as u64;
-        y = y * 2 + d.b as u64;
-        j += 1;
-    }
-    Two { a: x, b: y }
-}
-
-// The 64 bits from bit g on of the products of m, 8 w rows of w bytes, and each of two vectors.
-fn product_words(m: &[u8], w: usize, g: usize, v: Pair) -> Two
-    requires { Words w × (g ≤ 192) × (g % 64 ≡ 0) × (length m.now ≡ 8 * w * w) }
-    ensures { Holds (from g (product (8 * w) (row w m.now) (block_bits v.a))) result.a
-        × Holds (from g (product (8 * w) (row w m.now) (block_bits v.b))) result.b }
-{
-    if 8 * w <= g {
-        return Two { a: 0, b: 0 };
+        return [0; N];
     }
     rows_words(m, w, g, v)
 }
 
-// The products of m, 8 w rows of w bytes, and each of two vectors.
-fn products_rows(m: &[u8], w: usize, v: Pair) -> Pair
+// The products of m, 8 w rows of w bytes, and each of N vectors.
+fn products_rows<const N: usize>(m: &[u8], w: usize, v: [Block; N]) -> [Block; N]
     requires { Words w × (length m.now ≡ 8 * w * w) }
-    ensures { (block_bits result.a ≡ product (8 * w) (row w m.now) (block_bits v.a))
-        × (block_bits result.b ≡ product (8 * w) (row w m.now) (block_bits v.b)) }
+    ensures { (k : ℕ) → k < N → block_bits (at result k) ≡ product (8 * w) (row w m.now) (block_bits (at v.entry k)) }
 {
-    let x = product_words(m, w, 0, v);
-    let y = product_words(m, w, 64, v);
-    let z = product_words(m, w, 128, v);
-    let u = product_words(m, w, 192, v);
-    let a = Block {
-        words: [x.a, y.a, z.a, u.a],
-    };
-    let b = Block {
-        words: [x.b, y.b, z.b, u.b],
-    };
-    Pair { a, b }
+    let a = product_words(m, w, 0, v);
+    let b = product_words(m, w, 64, v);
+    let c = product_words(m, w, 128, v);
+    let d = product_words(m, w, 192, v);
+    let mut x = v;
+    for (k, block) in x.iter_mut().enumerate() {
+        block.words = [a[k], b[k], c[k], d[k]];
+    }
+    x
 }
 
-// The products of matrix k of a table and each of two vectors.
-pub fn products(p: Set, table: &[u8], k: usize, v: Pair) -> Pair
+// The products of matrix k of a table and each of N vectors.
+pub fn products<const N: usize>(p: Set, table: &[u8], k: usize, v: [Block; N]) -> [Block; N]
     requires { IsSet p × ((k + 1) * p.n * w p ≤ length table.now) }
-    ensures { (block_bits result.a ≡ product p.n (matrix_of p.n table.now k) (block_bits v.a))
-        × (block_bits result.b ≡ product p.n (matrix_of p.n table.now k) (block_bits v.b)) }
+    ensures { (j : ℕ) → j < N → block_bits (at result j) ≡ product p.n (matrix_of p.n table.now k) (block_bits (at v.entry j)) }
 {
     let w = p.width();
-    let at = k * p.n * w;
-    let end = at + p.n * w;
-    products_rows(&table[at..end], w, v)
+    let start = k * p.n * w;
+    let end = start + p.n * w;
+    products_rows(&table[start..end], w, v)
 }
 
 // Every third place of a word, from the first on.
@@ -310,17 +227,15 @@ pub fn right(p: Set, x: Block) -> u64
     l.b ^ (l.c >> 1) ^ (l.a >> 2)
 }
 
-// The exclusive or of two pairs.
-fn xor_both(x: Pair, y: Pair) -> Pair
-    ensures { (block_bits result.a ≡ block_bits x.a ⊕ block_bits y.a) × (block_bits result.b ≡ block_bits x.b ⊕ block_bits y.b) }
+// The exclusive ors of blocks with the same place.
+fn xor_each<const N: usize>(x: [Block; N], y: [Block; N]) -> [Block; N]
+    ensures { (k : ℕ) → k < N → block_bits (at result k) ≡ block_bits (at x.entry k) ⊕ block_bits (at y.entry k) }
 {
-    let xa = x.a;
-    let xb = x.b;
-    let ya = y.a;
-    let yb = y.b;
-    let a = xa.xor(ya);
-    let b = xb.xor(yb);
-    Pair { a, b }
+    let mut z = x;
+    for (k, a) in z.iter_mut().enumerate() {
+        *a = a.xor(y[k]);
+    }
+    z
 }
 
 // What the calls over LowMC refuse, by the lengths of their slices.

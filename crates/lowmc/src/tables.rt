@@ -5,7 +5,7 @@
 ghost use Rattle.lowmc.specs.Lent.{Lent};
 ghost use Rattle.lowmc.specs.LentProp.{Lent-prop};
 
-use crate::{Pair, product, products, sboxes, xor_both};
+use crate::{products, sboxes, xor_each};
 use bits::Block;
 use sets::Set;
 
@@ -20,7 +20,7 @@ pub struct Tables<'a> {
 }
 
 impl Tables<'_> {
-    ghost use Rattle.std.specs.Prelude.{◌≡◌, ◌+◌, ◌≤◌, ◌<◌, length};
+    ghost use Rattle.std.specs.Prelude.{◌≡◌, ℕ, ◌+◌, ◌≤◌, ◌<◌, length};
     ghost use Rattle.slices.specs.Slices.{over};
     ghost use Rattle.bits.specs.Bits.{◌⊕◌};
     ghost use Rattle.bits.specs.Words.{block_bits};
@@ -28,6 +28,7 @@ impl Tables<'_> {
     ghost use Rattle.circuit.specs.Matrices.{product};
     ghost use Rattle.circuit.specs.Lowmc.{start, step, encryption};
     ghost use Rattle.lowmc.specs.Cipher.{cipher};
+    ghost use Rattle.lowmc.specs.Vectors.{at};
     ghost use Rattle.lowmc.specs.Encrypted.{encrypted, public_key};
 
     // Round constant i.
@@ -41,41 +42,28 @@ impl Tables<'_> {
         Block::load(&self.constants[at..end])
     }
 
-    // What stands before the first round: Kmatrix[0]·key, and c.
-    pub fn start(&self, key: Block, c: Block) -> Block
-        ensures { block_bits result ≡ start (cipher self.now) (block_bits key) (block_bits c) }
+    // What stands before the first round for each of N keys, with a block c of its own: Kmatrix[0]·key, and c.
+    pub fn start<const N: usize>(&self, key: [Block; N], c: [Block; N]) -> [Block; N]
+        ensures { (k : ℕ) → k < N → block_bits (at result k) ≡ start (cipher self.now) (block_bits (at key.entry k)) (block_bits (at c.entry k)) }
     {
-        product(self.set, self.keys, 0, key).xor(c)
+        xor_each(products(self.set, self.keys, 0, key), c)
     }
 
-    // What follows the S-boxes of a round, y: Lmatrix[i]·y, c, and Kmatrix[i+1]·key.
-    pub fn turn(&self, i: usize, key: Block, c: Block, y: Block) -> Block
+    // What follows the S-boxes of a round, y, for each of N keys, with a block c of its own: Lmatrix[i]·y, c, and Kmatrix[i+1]·key.
+    pub fn turn<const N: usize>(
+        &self,
+        i: usize,
+        key: [Block; N],
+        c: [Block; N],
+        y: [Block; N],
+    ) -> [Block; N]
         requires { i < self.now.set.r }
-        ensures { block_bits result ≡ product self.now.set.n ((cipher self.now).Lmatrix i) (block_bits y)
-            ⊕ block_bits c ⊕ product self.now.set.n ((cipher self.now).Kmatrix (i + 1)) (block_bits key) }
-    {
-        product(self.set, self.layers, i, y).xor(c.xor(product(self.set, self.keys, i + 1, key)))
-    }
-
-    // `start` for two keys, each with a c of its own.
-    pub fn start_both(&self, key: Pair, c: Pair) -> Pair
-        ensures { (block_bits result.a ≡ start (cipher self.now) (block_bits key.a) (block_bits c.a))
-            × (block_bits result.b ≡ start (cipher self.now) (block_bits key.b) (block_bits c.b)) }
-    {
-        xor_both(products(self.set, self.keys, 0, key), c)
-    }
-
-    // `turn` for two keys, each with a c and a y of its own.
-    pub fn turn_both(&self, i: usize, key: Pair, c: Pair, y: Pair) -> Pair
-        requires { i < self.now.set.r }
-        ensures { (block_bits result.a ≡ product self.now.set.n ((cipher self.now).Lmatrix i) (block_bits y.a)
-            ⊕ block_bits c.a ⊕ product self.now.set.n ((cipher self.now).Kmatrix (i + 1)) (block_bits key.a))
-            × (block_bits result.b ≡ product self.now.set.n ((cipher self.now).Lmatrix i) (block_bits y.b)
-            ⊕ block_bits c.b ⊕ product self.now.set.n ((cipher self.now).Kmatrix (i + 1)) (block_bits key.b)) }
+        ensures { (k : ℕ) → k < N → block_bits (at result k) ≡ product self.now.set.n ((cipher self.now).Lmatrix i) (block_bits (at y.entry k))
+            ⊕ block_bits (at c.entry k) ⊕ product self.now.set.n ((cipher self.now).Kmatrix (i + 1)) (block_bits (at key.entry k)) }
     {
         let l = products(self.set, self.layers, i, y);
-        let k = products(self.set, self.keys, i + 1, key);
-        xor_both(l, xor_both(c, k))
+        let m = products(self.set, self.keys, i + 1, key);
+        xor_each(l, xor_each(c, m))
     }
 
     // A round of LowMC.
@@ -84,7 +72,8 @@ impl Tables<'_> {
         ensures { block_bits result ≡ step (cipher self.now) (block_bits key) i (block_bits x) }
     {
         let c = self.constant(i);
-        self.turn(i, key, c, sboxes(self.set, x))
+        let [y] = self.turn(i, [key], [c], [sboxes(self.set, x)]);
+        y
     }
 
     // The encryption of a block under a key.
@@ -92,7 +81,7 @@ impl Tables<'_> {
         ensures { block_bits result ≡ encryption (cipher self.now) (block_bits key) (block_bits block) }
     {
         let r = self.set.r;
-        let mut x = self.start(key, block);
+        let [mut x] = self.start([key], [block]);
         for i in 0..r {
             x = self.step(i, key, x);
         }

@@ -8,13 +8,15 @@ use native.Mathlib.Omega.{arith}
 use lib.ListN.{length, get_or, set, replicate}
 use lib.Seq.{get_or-set_same, get_or-set_other}
 use Rattle.bits.specs.Bits.{Bits, up_to}
-use Rattle.bits.specs.Words.{word_bits}
+use Rattle.bits.specs.Words.{word_bits, block_bits}
+use Rattle.bits.specs.declared.Block.{Block}
 use Rattle.bits.specs.Rows.{Rows, rows_of}
 use Rattle.bits.proofs.BitsLaws.{up_to_out}
 use Rattle.bits.proofs.RowsLaws.{get_d_zeros}
 use Rattle.bits.proofs.NumberLaws.{below}
 use Rattle.bits.proofs.WordsLaws.{zero_bits}
 use Rattle.circuit.specs.Round.{Party, party0, party1, party2}
+use Rattle.lowmc.specs.Vectors.{at}
 use Rattle.round.specs.Engine.{Written}
 
 -- what holds of each party
@@ -73,12 +75,18 @@ written_cong m n t u ws h w = record { rowed = w.rowed; rows = λ i l. w.rows i 
 -- ---- states
 
 -- the first state, and one state more
-pub one_state : (f s : ℕ → Bits) → f 0 ≡ s 0 → (k : ℕ) → k ≤ 0 → f k ≡ s k
-one_state f s e k l = let z : k ≡ 0 = omega arith in subst⁻¹ (λ (j : ℕ). f j ≡ s j) z e
+pub one_state : (xs : List Block) (x : Block) (s : ℕ → Bits) → 0 < length xs → block_bits x ≡ s 0
+    → (k : ℕ) → k ≤ 0 → block_bits (at (set xs 0 x) k) ≡ s k
+one_state xs x s l e k h =
+    let z : k ≡ 0 = omega arith in
+    subst⁻¹ (λ (j : ℕ). block_bits (at (set xs 0 x) j) ≡ s j) z (ap block_bits (get_or-set_same xs 0 x _ l) ∙ e)
 
-pub more_states : (i : ℕ) (f g s : ℕ → Bits) → g (i + 1) ≡ s (i + 1) → ((k : ℕ) → (k ≡ i + 1 → ⊥) → g k ≡ f k) → ((k : ℕ) → k ≤ i → f k ≡ s k)
-    → (k : ℕ) → k ≤ i + 1 → g k ≡ s k
-more_states i f g s e other h = by_place (i + 1) (λ k. k ≤ i + 1 → g k ≡ s k) (λ l. e) (λ k n l. other k n ∙ h k (less k n l))
+pub more_states : (i : ℕ) (xs : List Block) (x : Block) (s : ℕ → Bits) → i + 1 < length xs → block_bits x ≡ s (i + 1)
+    → ((k : ℕ) → k ≤ i → block_bits (at xs k) ≡ s k) → (k : ℕ) → k ≤ i + 1 → block_bits (at (set xs (i + 1) x) k) ≡ s k
+more_states i xs x s l e h =
+    by_place (i + 1) (λ k. k ≤ i + 1 → block_bits (at (set xs (i + 1) x) k) ≡ s k)
+    (λ q. ap block_bits (get_or-set_same xs (i + 1) x _ l) ∙ e)
+    (λ k n q. ap block_bits (get_or-set_other xs (i + 1) k x _ n) ∙ h k (less k n q))
   where
     less : (k : ℕ) → (k ≡ i + 1 → ⊥) → k ≤ i + 1 → k ≤ i
     less k n l = ⊎_elim (λ (q : k < i + 1). omega arith) (λ (q : i + 1 ≤ k). absurd (n (omega arith))) (below k (i + 1))

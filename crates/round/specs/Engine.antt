@@ -1,32 +1,28 @@
 -- Cited by inner contracts alone: what the engine's values say, shares and rows of gates by party, and what a simulation and a
 -- recomputation leave.
-use Rattle.std.specs.Prelude.{◌≡◌, List, [], ◌∷◌, ℕ, ◌+◌, ◌*◌, ◌<◌, ◌≤◌, get_or}
+use Rattle.std.specs.Prelude.{◌≡◌, List, [], ℕ, ◌*◌, ◌<◌, ◌≤◌, get_or}
 use Rattle.bits.specs.Bits.{Bits, up_to}
-use Rattle.bits.specs.Words.{word_bits, list_bits, block_bits}
+use Rattle.bits.specs.Words.{word_bits, block_bits}
 use Rattle.bits.specs.Rows.{Rows, rows_of, Rowed}
 use Rattle.bits.specs.declared.Block.{Block}
 use Rattle.bits.specs.declared.Strip.{Strip}
 use Rattle.circuit.specs.Lowmc.{Cipher, state_after}
-use Rattle.circuit.specs.Round.{Party, party0, party1, party2, transcript, output_share, Opening, transcript₁, output₁, output₂}
-use Rattle.round.specs.declared.Shares.{Shares}
-use Rattle.round.specs.declared.Gates.{Gates}
+use Rattle.circuit.specs.Round.{Party, transcript, output_share, Opening, transcript₁, output₁, output₂}
+use Rattle.circuit.specs.Tapes.{party_number}
+use Rattle.lowmc.specs.Vectors.{at}
 use Rattle.round.specs.declared.View.{View}
 use Rattle.round.specs.declared.Again.{Again}
 
--- the bits of a party's block
-abbrev pub share_in : Shares → Party → Bits
-share_in s party0 = block_bits s.a
-share_in s party1 = block_bits s.b
-share_in s party2 = block_bits s.c
+-- of three blocks by party, the bits of a party's
+abbrev pub share_in : List Block → Party → Bits
+share_in s j = block_bits (at s (party_number j))
 
--- the word of a party's row
-abbrev pub word : Gates → Party → ℕ
-word g party0 = g.a
-word g party1 = g.b
-word g party2 = g.c
+-- of three rows by party, a party's word
+abbrev pub word : List ℕ → Party → ℕ
+word g j = get_or g (party_number j) 0
 
 -- and its bits
-abbrev pub row_of : Gates → Party → Bits
+abbrev pub row_of : List ℕ → Party → Bits
 row_of g j = word_bits (word g j)
 
 -- words that hold the first n rows of t, m bits each, and nothing else
@@ -36,19 +32,17 @@ pub record Written (m n : ℕ) (t : Rows) (ws : List ℕ) : Type 0 where
 
 -- ---- the signer
 
--- the state after i rounds among all states, each of four words
-abbrev pub state_of : List ℕ → ℕ → Bits
-state_of ws i = list_bits (get_or ws (4 * i) 0 ∷ get_or ws (4 * i + 1) 0 ∷ get_or ws (4 * i + 2) 0 ∷ get_or ws (4 * i + 3) 0 ∷ [])
+-- the states of the encryption of p under the key, by how many rounds are done
+abbrev pub Traced : Cipher → (key p : Bits) → List Block → Type 0
+Traced L key p xs = (i : ℕ) → i ≤ L.r → block_bits (at xs i) ≡ state_after L key p i
 
--- words that hold the states of the encryption of p under the key
-abbrev pub Traced : Cipher → (key p : Bits) → List ℕ → Type 0
-Traced L key p ws = (i : ℕ) → i ≤ L.r → state_of ws i ≡ state_after L key p i
+-- of three transcripts by party, the words of a party's
+abbrev pub said_in : List Strip → Party → List ℕ
+said_in ts j = (get_or ts (party_number j) (record { words = [] })).words
 
--- the words of the transcript that a simulation leaves for a party
+-- and of those that a simulation leaves
 abbrev pub said : View → Party → List ℕ
-said v party0 = v.a.words
-said v party1 = v.b.words
-said v party2 = v.c.words
+said v j = said_in v.said j
 
 -- a simulation's output shares and transcripts
 pub record Simulated (L : Cipher) (p : Bits) (x : Party → Bits) (t : Party → Rows) (v : View) : Type 0 where

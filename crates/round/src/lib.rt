@@ -2,7 +2,7 @@
 // A row of gates, of a tape or of a transcript, stands at the top of a word. No branch and no index depends on a secret.
 #![tactic(auto)]
 
-ghost use Rattle.std.specs.Prelude.{◌≡◌, cond, ℕ, ◌*◌, ◌≤◌, ◌<◌, length};
+ghost use Rattle.std.specs.Prelude.{◌≡◌, cond, ℕ, ◌*◌, ◌≤◌, ◌<◌, false, get_or, length, set};
 ghost use Rattle.slices.specs.Slices.{Bytes};
 ghost use Rattle.bits.specs.Bits.{◌⊕◌, zeros, up_to, from};
 ghost use Rattle.bits.specs.Bytes.{bits_of, bytes_of};
@@ -17,29 +17,14 @@ ghost use Rattle.circuit.specs.RoundTheorems.{xor3};
 ghost use Rattle.circuit.specs.Tapes.{party_number};
 ghost use Rattle.lowmc.specs.Lent.{cipher_of};
 ghost use Rattle.lowmc.specs.Cipher.{cipher};
-ghost use Rattle.round.specs.Engine.{share_in, row_of, Written, opening_on_words, RecomputedAs, state_of, Traced, Simulated};
+ghost use Rattle.lowmc.specs.Vectors.{at};
+ghost use Rattle.round.specs.Engine.{share_in, row_of, Written, opening_on_words, RecomputedAs, Traced, said_in, word, Simulated};
 ghost use Rattle.round.specs.Inner.{Begun, Stepped};
 ghost use Rattle.round.specs.Inputs.{input_share, Taped, tapes_of, opening_of};
 
 use bits::{Block, Strip};
-use lowmc::{Pair, Tables};
+use lowmc::Tables;
 use sets::Set;
-
-// A block for each party.
-#[derive(Clone, Copy)]
-pub struct Shares {
-    pub a: Block,
-    pub b: Block,
-    pub c: Block,
-}
-
-// A row for each party.
-#[derive(Clone, Copy)]
-pub struct Gates {
-    pub a: u64,
-    pub b: u64,
-    pub c: u64,
-}
 
 // The first m places of a word.
 fn top(x: u64, m: usize) -> u64
@@ -63,18 +48,15 @@ fn gate_row(p: Set, x: Block, y: Block, t: u64, u: u64) -> u64
 }
 
 // The gates of a layer for the three parties.
-fn gate_rows(p: Set, s: Shares, t: Gates) -> Gates
+fn gate_rows(p: Set, s: [Block; 3], t: [u64; 3]) -> [u64; 3]
     requires { IsSet p }
     ensures { (j : Party) → row_of result j ≡ up_to (3 * p.s) (gates (share_in s j) (share_in s (next j)) (row_of t j) (row_of t (next j))) }
 {
-    let x = s.a;
-    let y = s.b;
-    let z = s.c;
-    Gates {
-        a: gate_row(p, x, y, t.a, t.b),
-        b: gate_row(p, y, z, t.b, t.c),
-        c: gate_row(p, z, x, t.c, t.a),
-    }
+    [
+        gate_row(p, s[0], s[1], t[0], t[1]),
+        gate_row(p, s[1], s[2], t[1], t[2]),
+        gate_row(p, s[2], s[0], t[2], t[0]),
+    ]
 }
 
 // The public block c for the share that public constants go into, and zero bits for another.
@@ -88,54 +70,46 @@ fn public_part(into: bool, c: Block) -> Block
 }
 
 // Such parts of a public block for two shares.
-fn public_parts(in1: bool, in2: bool, c: Block) -> Pair
-    ensures { (block_bits result.a ≡ cond in1 (block_bits c) zeros) × (block_bits result.b ≡ cond in2 (block_bits c) zeros) }
+fn public_parts(into: [bool; 2], c: Block) -> [Block; 2]
+    ensures { (k : ℕ) → k < 2 → block_bits (at result k) ≡ cond (get_or into k false) (block_bits c) zeros }
 {
-    let a = public_part(in1, c);
-    let b = public_part(in2, c);
-    Pair { a, b }
+    [public_part(into[0], c), public_part(into[1], c)]
 }
 
 // Two shares of the state before the first round. The matrix is read once for both.
-fn start_shares(tables: &Tables, shares: Pair, in1: bool, in2: bool, plain: Block) -> Pair
-    ensures { (block_bits result.a ≡ start (cipher tables.now) (block_bits shares.a) (cond in1 (block_bits plain) zeros))
-        × (block_bits result.b ≡ start (cipher tables.now) (block_bits shares.b) (cond in2 (block_bits plain) zeros)) }
+fn start_shares(tables: &Tables, shares: [Block; 2], into: [bool; 2], plain: Block) -> [Block; 2]
+    ensures { (k : ℕ) → k < 2 → block_bits (at result k)
+        ≡ start (cipher tables.now) (block_bits (at shares k)) (cond (get_or into k false) (block_bits plain) zeros) }
 {
-    tables.start_both(shares, public_parts(in1, in2, plain))
+    tables.start(shares, public_parts(into, plain))
 }
 
-// The layer of S-boxes on two shares: t and u are those parties' rows of gates.
-fn substitute(p: Set, x: Pair, t: u64, u: u64) -> Pair
+// The layer of S-boxes on two shares, by those parties' rows of gates.
+fn substitute(p: Set, x: [Block; 2], g: [u64; 2]) -> [Block; 2]
     requires { IsSet p }
-    ensures { (block_bits result.a ≡ sboxes_by p.s (block_bits x.a) (word_bits t))
-        × (block_bits result.b ≡ sboxes_by p.s (block_bits x.b) (word_bits u)) }
+    ensures { (k : ℕ) → k < 2 → block_bits (at result k) ≡ sboxes_by p.s (block_bits (at x k)) (word_bits (get_or g k 0)) }
 {
-    let a = x.a;
-    let b = x.b;
-    let c = lowmc::sboxes_by(p, a, t);
-    let d = lowmc::sboxes_by(p, b, u);
-    Pair { a: c, b: d }
+    [
+        lowmc::sboxes_by(p, x[0], g[0]),
+        lowmc::sboxes_by(p, x[1], g[1]),
+    ]
 }
 
-// Round i of LowMC on two shares: t and u are those parties' rows of gates.
+// Round i of LowMC on two shares with the states x, by those parties' rows of gates.
 fn advance_shares(
     tables: &Tables,
     i: usize,
-    shares: Pair,
-    in1: bool,
-    in2: bool,
-    x: Pair,
-    t: u64,
-    u: u64,
-) -> Pair
+    shares: [Block; 2],
+    into: [bool; 2],
+    x: [Block; 2],
+    g: [u64; 2],
+) -> [Block; 2]
     requires { i < tables.now.set.r }
-    ensures { (block_bits result.a ≡ advance (cipher tables.now) i (block_bits shares.a)
-        (cond in1 ((cipher tables.now).roundconstant i) zeros) (block_bits x.a) (word_bits t))
-        × (block_bits result.b ≡ advance (cipher tables.now) i (block_bits shares.b)
-        (cond in2 ((cipher tables.now).roundconstant i) zeros) (block_bits x.b) (word_bits u)) }
+    ensures { (k : ℕ) → k < 2 → block_bits (at result k) ≡ advance (cipher tables.now) i (block_bits (at shares k))
+        (cond (get_or into k false) ((cipher tables.now).roundconstant i) zeros) (block_bits (at x k)) (word_bits (get_or g k 0)) }
 {
-    let c = public_parts(in1, in2, tables.constant(i));
-    tables.turn_both(i, shares, c, substitute(tables.set, x, t, u))
+    let c = public_parts(into, tables.constant(i));
+    tables.turn(i, shares, c, substitute(tables.set, x, g))
 }
 
 // What a recomputation leaves: the output shares of the two opened parties, and the first one's transcript.
@@ -160,24 +134,17 @@ pub fn recompute(
     ensures { (j : Party) → e ≡ party_number j → RecomputedAs (cipher tables.now) (block_bits plain) j
         (opening_on_words share1 share2 tape1 tape2 given) result }
 {
-    let in1 = e == 0;
-    let in2 = e == 2;
-    let shares = Pair {
-        a: share1,
-        b: share2,
-    };
-    let mut s = start_shares(tables, shares, in1, in2, plain);
+    let into = [e == 0, e == 2];
+    let shares = [share1, share2];
+    let mut s = start_shares(tables, shares, into, plain);
     let mut words = [0u64; 40];
     for i in 0..tables.set.r {
-        let x = s.a;
-        let y = s.b;
-        let g = gate_row(tables.set, x, y, tape1.words[i], tape2.words[i]);
+        let g = gate_row(tables.set, s[0], s[1], tape1.words[i], tape2.words[i]);
         words[i] = g;
-        let h = given.words[i];
-        s = advance_shares(tables, i, shares, in1, in2, s, g, h);
+        let next = advance_shares(tables, i, shares, into, s, [g, given.words[i]]);
+        s = next;
     }
-    let first = s.a;
-    let second = s.b;
+    let [first, second] = s;
     Again {
         first,
         second,
@@ -185,80 +152,55 @@ pub fn recompute(
     }
 }
 
-// The state after i rounds of an encryption, from all its states: each is four words.
-pub fn state_at(states: &[u64], i: usize) -> Block
-    requires { (i < 40) × (length states.now ≡ 160) }
-    ensures { block_bits result ≡ state_of states.now i }
-{
-    let at = 4 * i;
-    Block {
-        words: [states[at], states[at + 1], states[at + 2], states[at + 3]],
-    }
-}
-
-// x put as the state after i rounds.
-fn put_state(states: &mut [u64], i: usize, x: Block)
-    requires { (i < 40) × (length states.old ≡ 160) }
-    ensures { (state_of states.new i ≡ block_bits x)
-        × ((k : ℕ) → (k ≡ i → ⊥) → state_of states.new k ≡ state_of states.old k) }
-{
-    let at = 4 * i;
-    states[at] = x.words[0];
-    states[at + 1] = x.words[1];
-    states[at + 2] = x.words[2];
-    states[at + 3] = x.words[3];
-}
-
 // The encryption of a block under a key with all its states, computed once for all rounds of a signature.
-pub fn all_states(tables: &Tables, key: Block, block: Block, states: &mut [u64])
-    requires { length states.old ≡ 160 }
+pub fn all_states(tables: &Tables, key: Block, block: Block, states: &mut [Block; 40])
     ensures { Traced (cipher tables.now) (block_bits key) (block_bits block) states.new }
 {
-    let mut x = tables.start(key, block);
-    put_state(states, 0, x);
+    let [mut x] = tables.start([key], [block]);
+    states[0] = x;
     for i in 0..tables.set.r {
         x = tables.step(i, key, x);
-        put_state(states, i + 1, x);
+        states[i + 1] = x;
     }
-}
-
-// The blocks of the first two parties.
-fn first_two(s: Shares) -> Pair
-    ensures { (block_bits result.a ≡ share_in s party0) × (block_bits result.b ≡ share_in s party1) }
-{
-    let a = s.a;
-    let b = s.b;
-    Pair { a, b }
 }
 
 // The states of two parties, and the third's: what they lack of the encryption's.
-fn with_third(x: Pair, whole: Block) -> Shares
-    ensures { (share_in result party0 ≡ block_bits x.a) × (share_in result party1 ≡ block_bits x.b)
-        × (share_in result party2 ≡ block_bits whole ⊕ block_bits x.a ⊕ block_bits x.b) }
+fn with_third(x: [Block; 2], whole: Block) -> [Block; 3]
+    ensures { (share_in result party0 ≡ block_bits (at x 0)) × (share_in result party1 ≡ block_bits (at x 1))
+        × (share_in result party2 ≡ block_bits whole ⊕ block_bits (at x 0) ⊕ block_bits (at x 1)) }
 {
-    let a = x.a;
-    let b = x.b;
-    let c = whole.xor(a.xor(b));
-    Shares { a, b, c }
+    let [a, b] = x;
+    [a, b, whole.xor(a.xor(b))]
 }
 
 // The three states before the first round. The third is what the first two lack of the encryption's: a product less.
-fn begin(tables: &Tables, x: Shares, plain: Block, whole: Block) -> Shares
+fn begin(tables: &Tables, x: [Block; 3], plain: Block, whole: Block) -> [Block; 3]
     ensures { Begun (cipher tables.now) (block_bits plain) (share_in x) (block_bits whole) (share_in result) }
 {
-    let a = first_two(x);
-    let y = start_shares(tables, a, true, false, plain);
+    let y = start_shares(tables, [x[0], x[1]], [true, false], plain);
     with_third(y, whole)
 }
 
 // Round i for the three: x are the input shares, s the states, g the rows of gates, whole the encryption's state after the round.
-fn step(tables: &Tables, i: usize, x: Shares, s: Shares, g: Gates, whole: Block) -> Shares
+fn step(
+    tables: &Tables,
+    i: usize,
+    x: [Block; 3],
+    s: [Block; 3],
+    g: [u64; 3],
+    whole: Block,
+) -> [Block; 3]
     requires { i < tables.now.set.r }
     ensures { Stepped (cipher tables.now) i (share_in x) (share_in s) (row_of g) (block_bits whole) (share_in result) }
 {
-    let a = first_two(x);
-    let b = first_two(s);
-    let y = advance_shares(tables, i, a, true, false, b, g.a, g.b);
+    let y = advance_shares(
+        tables,
+        i,
+        [x[0], x[1]],
+        [true, false],
+        [s[0], s[1]],
+        [g[0], g[1]],
+    );
     with_third(y, whole)
 }
 
@@ -272,59 +214,58 @@ fn row_from(p: Set, s: &[u8], at: usize, i: usize) -> u64
 }
 
 // Row i of each tape: gates begin at bit n of tapes 0 and 1, at bit 0 of tape 2.
-fn rows_at(p: Set, t0: &[u8], t1: &[u8], t2: &[u8], i: usize) -> Gates
+fn rows_at(p: Set, t0: &[u8], t1: &[u8], t2: &[u8], i: usize) -> [u64; 3]
     requires { IsSet p × (i < p.r) }
     ensures { (keys layers constants : Bytes) (j : Party)
         → row_of result j ≡ tapes_of (cipher_of p keys layers constants) t0.now t1.now t2.now j i }
 {
-    Gates {
-        a: row_from(p, t0, p.n, i),
-        b: row_from(p, t1, p.n, i),
-        c: row_from(p, t2, 0, i),
-    }
+    [
+        row_from(p, t0, p.n, i),
+        row_from(p, t1, p.n, i),
+        row_from(p, t2, 0, i),
+    ]
 }
 
-// What a simulation leaves: the output shares and the transcripts.
+// What a simulation leaves by party: the output shares and the transcripts.
 #[derive(Clone, Copy)]
 pub struct View {
-    pub out: Shares,
-    pub a: Strip,
-    pub b: Strip,
-    pub c: Strip,
+    pub out: [Block; 3],
+    pub said: [Strip; 3],
+}
+
+// The words of three parties put as row i of their transcripts.
+fn put_rows(said: &mut [Strip; 3], i: usize, g: [u64; 3])
+    requires { i < 40 }
+    ensures { (j : Party) → said_in said.new j ≡ set (said_in said.old j) i (word g j) }
+{
+    said[0].words[i] = g[0];
+    said[1].words[i] = g[1];
+    said[2].words[i] = g[2];
 }
 
 // The signer's simulation: input shares, the tapes, and the states of the encryption under the key that is shared.
 pub fn simulate(
     tables: &Tables,
-    x: Shares,
+    x: [Block; 3],
     plain: Block,
     t0: &[u8],
     t1: &[u8],
     t2: &[u8],
-    states: &[u64],
+    states: &[Block; 40],
 ) -> View
-    requires { Traced (cipher tables.now) (xor3 (share_in x)) (block_bits plain) states.now × (length states.now ≡ 160) }
+    requires { Traced (cipher tables.now) (xor3 (share_in x)) (block_bits plain) states.now }
     ensures { Simulated (cipher tables.now) (block_bits plain) (share_in x)
         (tapes_of (cipher tables.now) t0.now t1.now t2.now) result }
 {
-    let mut s = begin(tables, x, plain, state_at(states, 0));
-    let mut a = [0u64; 40];
-    let mut b = [0u64; 40];
-    let mut c = [0u64; 40];
+    let mut s = begin(tables, x, plain, states[0]);
+    let mut said = [Strip { words: [0; 40] }; 3];
     for i in 0..tables.set.r {
         let g = gate_rows(tables.set, s, rows_at(tables.set, t0, t1, t2, i));
-        a[i] = g.a;
-        b[i] = g.b;
-        c[i] = g.c;
-        let whole = state_at(states, i + 1);
-        s = step(tables, i, x, s, g, whole);
+        put_rows(&mut said, i, g);
+        let next = step(tables, i, x, s, g, states[i + 1]);
+        s = next;
     }
-    View {
-        out: s,
-        a: Strip { words: a },
-        b: Strip { words: b },
-        c: Strip { words: c },
-    }
+    View { out: s, said }
 }
 
 // The rows of gates from bit at of s on.
@@ -356,14 +297,13 @@ pub fn tape_share(p: Set, tape: &[u8]) -> Block
 }
 
 // The input shares of a key: two from the tapes 0 and 1, the third by exclusive or.
-pub fn input_shares(p: Set, key: Block, t0: &[u8], t1: &[u8]) -> Shares
+pub fn input_shares(p: Set, key: Block, t0: &[u8], t1: &[u8]) -> [Block; 3]
     requires { IsSet p × (w p ≤ length t0.now) × (w p ≤ length t1.now) }
     ensures { (j : Party) → share_in result j ≡ input_share p.n (block_bits key) t0.now t1.now j }
 {
     let a = tape_share(p, t0);
     let b = tape_share(p, t1);
-    let c = key.xor(a.xor(b));
-    Shares { a, b, c }
+    [a, b, key.xor(a.xor(b))]
 }
 
 // The transcript t as bytes, with zero bits to the byte.

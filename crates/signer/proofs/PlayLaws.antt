@@ -16,7 +16,7 @@ use Rattle.sets.specs.Sets.{IsSet}
 use Rattle.circuit.specs.Lowmc.{Cipher, state_after}
 use Rattle.circuit.specs.Round.{Party, party0, party1, party2, by_party}
 use Rattle.circuit.specs.Tapes.{gate_bits}
-use Rattle.round.specs.declared.Shares.{Shares}
+use Rattle.bits.specs.declared.Block.{Block}
 use Rattle.round.specs.declared.View.{View}
 use Rattle.round.specs.Engine.{share_in, said, Written, Traced, Simulated}
 use Rattle.round.specs.Inputs.{input_share, tapes_of}
@@ -46,10 +46,10 @@ kept n secret t0 t1 l j = up_to_is n _ _ (λ i b. refl) (past n secret t0 t1 l j
 -- ---- a round over tapes
 
 -- states of the same encryption
-pub traced_as : (C : Cipher) (k k' b b' : Bits) (t : List ℕ) → k' ≡ k → b' ≡ b → Traced C k b t → Traced C k' b' t
+pub traced_as : (C : Cipher) (k k' b b' : Bits) (t : List Block) → k' ≡ k → b' ≡ b → Traced C k b t → Traced C k' b' t
 traced_as C k k' b b' t ek eb h i l = h i l ∙ λ z. state_after C (sym ek z) (sym eb z) i
 
-module _ (C : Cipher) (secret t0 t1 t2 : Bytes) (fits : 8 * length secret ≤ C.n) (x : Shares)
+module _ (C : Cipher) (secret t0 t1 t2 : Bytes) (fits : 8 * length secret ≤ C.n) (x : List Block)
     (hx : (j : Party) → share_in x j ≡ input_share C.n (bits_of secret) t0 t1 j) where
   -- the shares on words are those in bytes
   share-bits : share_in x ≡ share_bits C secret (by_party t0 t1 t2)
@@ -67,8 +67,8 @@ module _ (C : Cipher) (secret t0 t1 t2 : Bytes) (fits : 8 * length secret ≤ C.
       subst (λ (z : Party → Bits). Simulated C (bits_of block) z (tapes_of C t0 t1 t2) v) share-bits
       (subst (λ (b : Bits). Simulated C b (share_in x) (tapes_of C t0 t1 t2) v) e h) in
       record {
-        inputs = λ j. ap (λ (z : Shares). bytes_of C.n (share_in z j)) ei ∙ ap (bytes_of C.n) (hx j);
-        outputs = λ j. ap (λ (z : Shares). bytes_of C.n (share_in z j)) eo ∙ ap (bytes_of C.n) (s.outputs j);
+        inputs = λ j. ap (λ (z : List Block). bytes_of C.n (share_in z j)) ei ∙ ap (bytes_of C.n) (hx j);
+        outputs = λ j. ap (λ (z : List Block). bytes_of C.n (share_in z j)) eo ∙ ap (bytes_of C.n) (s.outputs j);
         said = λ j. es j _ (s.transcripts j);
       }
 

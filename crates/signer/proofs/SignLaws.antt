@@ -24,7 +24,10 @@ use Rattle.circuit.specs.Lowmc.{Cipher, encryption}
 use Rattle.circuit.specs.Round.{Party}
 use Rattle.lowmc.specs.Lent.{cipher_of, Lent}
 use Rattle.lowmc.specs.Encrypted.{encrypted, plaintext, ciphertext}
-use Rattle.round.specs.Engine.{state_of, Traced}
+use Rattle.round.specs.Engine.{Traced}
+use Rattle.bits.specs.Words.{block_bits}
+use Rattle.lowmc.specs.Vectors.{at}
+use Rattle.bits.specs.declared.Block.{Block}
 use Rattle.hashing.specs.Hashing.{h}
 use Rattle.challenge.specs.declared.Filled.{Filled}
 use Rattle.challenge.specs.declared.Filled.TheVariants.{Full, Short}
@@ -62,8 +65,8 @@ handed set_number keys layers constants secret public message limit seeds room o
 -- ---- the key pair
 
 -- what is compared is the encryption and the ciphertext, where m is the code's width
-pub paired_is : (p : Set) (states : List ℕ) (public cs : Bytes) (x : Bits) (m : ℕ) (b : Bool) → m ≡ w p → take (w p) cs ≡ bytes_of p.n x
-    → x ≡ state_of states p.r → b ≡ equal (take m cs) (take m public)
+pub paired_is : (p : Set) (states : List Block) (public cs : Bytes) (x : Bits) (m : ℕ) (b : Bool) → m ≡ w p → take (w p) cs ≡ bytes_of p.n x
+    → x ≡ block_bits (at states p.r) → b ≡ equal (take m cs) (take m public)
     → (keys layers constants secret block : Bytes) → Traced (cipher_of p keys layers constants) (bits_of secret) (bits_of block) states
     → b ≡ equal (encrypted p keys layers constants secret block) (ciphertext p public)
 unfolding encrypted encryption

@@ -11,7 +11,6 @@ ghost use Rattle.sets.specs.Sets.{IsSet, numbered};
 ghost use Rattle.sets.specs.Lengths.{w, transcript_length, public_length, room_length, longest};
 ghost use Rattle.answers.specs.Answers.{first};
 ghost use Rattle.circuit.specs.Round.{Party, party2};
-ghost use Rattle.circuit.specs.Tapes.{party_number};
 ghost use Rattle.lowmc.specs.Cipher.{cipher};
 ghost use Rattle.lowmc.specs.Encrypted.{plaintext};
 ghost use Rattle.round.specs.Engine.{share_in, said, Traced, Written};
@@ -30,18 +29,16 @@ use answers::Refusal;
 use bits::Block;
 use challenge::Filled;
 use lowmc::Tables;
-use round::{Shares, View};
+use round::View;
 use sets::{Chosen, Set};
 use signing::Signing;
 
-// What the signer has of a round. Transcripts are bytes, each at the start of an array.
+// What the signer has of a round, by party. Transcripts are bytes, each at the start of an array.
 #[derive(Clone, Copy)]
 pub struct Played {
-    pub inputs: Shares,
-    pub outputs: Shares,
-    pub said0: [u8; 143],
-    pub said1: [u8; 143],
-    pub said2: [u8; 143],
+    pub inputs: [Block; 3],
+    pub outputs: [Block; 3],
+    pub said: [[u8; 143]; 3],
 }
 
 // Checks 2 to 6.
@@ -85,51 +82,20 @@ fn refused(
     Refusal::Fine
 }
 
-// The block of party j.
-fn block_of(s: Shares, j: usize) -> Block
-    ensures { (k : Party) → j ≡ party_number k → block_bits result ≡ share_in s k }
-{
-    if j == 0 {
-        return s.a;
-    }
-    if j == 1 {
-        return s.b;
-    }
-    s.c
-}
-
-// The transcript of party j, at the start of an array.
-fn said_of(x: &Played, j: usize) -> [u8; 143]
-    ensures { (k : Party) → j ≡ party_number k → result ≡ said_by x.now k }
-{
-    if j == 0 {
-        return x.said0;
-    }
-    if j == 1 {
-        return x.said1;
-    }
-    x.said2
-}
-
 // What the signer has of a round that was simulated from these input shares.
-fn in_bytes(p: Set, inputs: Shares, v: View) -> Played
+fn in_bytes(p: Set, inputs: [Block; 3], v: View) -> Played
     requires { IsSet p × ((j : Party) → Rowed (3 * p.s) p.r (said v j)) }
     ensures { (result.inputs ≡ inputs) × (result.outputs ≡ v.out)
         × ((j : Party) (u : Rows) → Written (3 * p.s) p.r u (said v j) → take (transcript_length p) (said_by result j) ≡ bytes_of (3 * p.s * p.r) (flat (3 * p.s) u)) }
 {
-    let outputs = v.out;
-    let a = v.a;
-    let b = v.b;
-    let c = v.c;
-    let said0 = room::transcribed(p, a);
-    let said1 = room::transcribed(p, b);
-    let said2 = room::transcribed(p, c);
     Played {
         inputs,
-        outputs,
-        said0,
-        said1,
-        said2,
+        outputs: v.out,
+        said: [
+            room::transcribed(p, v.said[0]),
+            room::transcribed(p, v.said[1]),
+            room::transcribed(p, v.said[2]),
+        ],
     }
 }
 
@@ -146,20 +112,19 @@ fn commit_party(p: Set, seed: &[u8], share: Block, said: [u8; 143], output_share
 }
 
 // The share that is shown for e, at the start of an array: that of party 2, or zeros where e is 0.
-fn shown_share(p: Set, e: u8, x: Shares) -> [u8; 32]
+fn shown_share(p: Set, e: u8, x: [Block; 3]) -> [u8; 32]
     requires { IsSet p }
     ensures { take (w p) result ≡ cond (eqb e 0) (replicate (w p) 0) (bytes_of p.n (share_in x party2)) }
 {
     if e == 0 {
         return [0u8; 32];
     }
-    let c = x.c;
-    room::stored(p, c)
+    room::stored(p, x[2])
 }
 
 // The encryption of the plaintext under the secret key, with all its states.
-fn traced(tables: &Tables, secret: &[u8], public: &[u8], states: &mut [u64])
-    requires { (length secret.now ≡ w tables.now.set) × (length public.now ≡ public_length tables.now.set) × (length states.old ≡ 160) }
+fn traced(tables: &Tables, secret: &[u8], public: &[u8], states: &mut [Block; 40])
+    requires { (length secret.now ≡ w tables.now.set) × (length public.now ≡ public_length tables.now.set) }
     ensures { Traced (cipher tables.now) (bits_of secret.now) (bits_of (plaintext tables.now.set public.now)) states.new }
 {
     let w = tables.set.width();
@@ -278,7 +243,7 @@ fn sign_known(
         layers,
         constants,
     };
-    let mut states = [0u64; 160];
+    let mut states = [Block::zero(); 40];
     traced(&tables, secret, public, &mut states);
     let signing = Signing {
         tables,

@@ -4,7 +4,7 @@
 ghost use Rattle.signer.specs.Played.{Ready};
 ghost use Rattle.signer.specs.ReadyProp.{Ready-prop};
 
-use crate::{Played, block_of, commit_party, in_bytes, said_of, shown_share};
+use crate::{Played, commit_party, in_bytes, shown_share};
 use bits::Block;
 use lowmc::Tables;
 use parts::Shown;
@@ -17,7 +17,7 @@ pub struct Signing<'a> {
     pub secret: &'a [u8],
     pub public: &'a [u8],
     pub seeds: &'a [u8],
-    pub states: &'a [u64],
+    pub states: &'a [Block; 40],
     pub ghost ready: { Ready tables.set tables.keys.now tables.layers.now tables.constants.now secret.now public.now seeds.now states.now } by { Ready-prop tables.set tables.keys.now tables.layers.now tables.constants.now secret.now public.now seeds.now states.now },
 }
 
@@ -52,7 +52,7 @@ impl Signing<'_> {
     {
         let p = self.tables.set;
         let w = p.width();
-        let c = room::stored(p, round::state_at(self.states, p.r));
+        let c = room::stored(p, self.states[p.r]);
         slices::equal(&c[..w], &self.public[..w])
     }
 
@@ -108,9 +108,9 @@ impl Signing<'_> {
         commit_party(
             p,
             &self.seeds[at..end],
-            block_of(x.inputs, j),
-            said_of(x, j),
-            block_of(x.outputs, j),
+            x.inputs[j],
+            x.said[j],
+            x.outputs[j],
         )
     }
 
@@ -134,8 +134,8 @@ impl Signing<'_> {
             ≡ with_round self.now.tables.set t (three (outputs_of self.now t)) (three (commitments_of self.now t)) room.old }
     {
         let x = self.played(t);
-        let y = x.outputs;
-        room::put_outputs(self.tables.set, t, 0, y.a, y.b, y.c, room);
+        let [a, b, c] = x.outputs;
+        room::put_outputs(self.tables.set, t, 0, a, b, c, room);
         self.put_commitments(t, &x, room);
     }
 
@@ -198,9 +198,8 @@ impl Signing<'_> {
         let j = e as usize;
         let k = (j + 1) % 3;
         let commitment = self.commitment_of(t, (j + 2) % 3, x);
-        let transcript = said_of(x, k);
         let share = shown_share(self.tables.set, e, x.inputs);
-        self.write_parts(t, e, commitment, transcript, share, output, at)
+        self.write_parts(t, e, commitment, x.said[k], share, output, at)
     }
 
     // Round t, simulated anew and written for the value e at a place of the output; where the next round starts.

@@ -6,17 +6,24 @@ use Rattle.bits.proofs.WordsLaws.{four_words}
 use Rattle.circuit.specs.Matrices.{product}
 use Rattle.circuit.proofs.MatricesLaws.{product_past}
 use Rattle.lowmc.specs.Lent.{row}
+use Rattle.lowmc.specs.Vectors.{at}
+use Rattle.lowmc.proofs.VectorsLaws.{set_none, set_more}
 use Rattle.lowmc.proofs.products_rows.Goals as goal
 
-pub returns : goal.returns
-returns c =
+pub loop-k-init : goal.loop-k-init
+loop-k-init g c = set_none _ _ _ _ (omega arith)
+
+pub loop-k-preserved : goal.loop-k-preserved
+loop-k-preserved g c =
     let a = c.args in
-    let x = c.product_words-x.ensures in
-    let y = c.product_words-y.ensures in
-    let z = c.product_words-z.ensures in
-    let u = c.product_words-u.ensures in
+    let k = c.loop-k.k in
+    let l = c.loop-k-test.true in
     let n = 8 * a.w in
-    let M = row a.w a.m.now in (
-      four_words (product n M (block_bits a.v.a)) _ _ _ _ x.0 y.0 z.0 u.0 (λ i l. product_past n M (block_bits a.v.a) i (omega arith)),
-      four_words (product n M (block_bits a.v.b)) _ _ _ _ x.1 y.1 z.1 u.1 (λ i l. product_past n M (block_bits a.v.b) i (omega arith)),
-    )
+    let M = row a.w a.m.now in
+    let x = block_bits (at a.v k) in
+    set_more _ _ _ _ _ c.loop-k.invariant l
+    (λ e. four_words (product n M x) _ _ _ _ (c.product_words-a.ensures k l) (c.product_words-b.ensures k l) (c.product_words-c.ensures k l)
+    (c.product_words-d.ensures k l) (λ i h. product_past n M x i (omega arith)))
+
+pub returns : goal.returns
+returns g c k l = c.loop-k.invariant.done k (omega arith)

@@ -1,5 +1,6 @@
 -- `round::all_states` meets its contract.
-use mathlib.Core.Path.{◌∙◌}
+use native.Mathlib.Omega.{arith}
+use lib.ListN.{length-set}
 use Rattle.sets.specs.declared.Set.{Set}
 use Rattle.sets.proofs.Each.{most}
 use Rattle.circuit.specs.Lowmc.{state_after}
@@ -9,20 +10,21 @@ use Rattle.round.proofs.all_states.Goals as goal
 
 pub loop-i-init : goal.loop-i-init
 loop-i-init c =
-    let s = state-none _ _ _ _ c.start-x.ensures in
+    let s = state-none _ _ _ _ (c.start.ensures 0 (omega arith)) in
     record {
       rounds = most (λ (q : Set). q.r) 38 tt tt tt c.args.tables.now.lent.is_set;
+      size = simp length-set c.told-states;
       state = s;
-      traced = one_state _ (state_after _ _ _) (c.put_state.ensures.0 ∙ s);
+      traced = one_state _ _ (state_after _ _ _) (omega arith) s;
     }
 
 pub loop-i-preserved : goal.loop-i-preserved
 loop-i-preserved c =
     let l = c.loop-i in
     let s = state-more _ _ _ l.i _ _ l.invariant.state c.step-x.ensures in
-    let p = c.put_state-in-loop-i.ensures in
     record {
       rounds = l.invariant.rounds;
+      size = simp length-set l.invariant.size;
       state = s;
-      traced = more_states l.i _ _ _ (p.0 ∙ s) p.1 l.invariant.traced;
+      traced = more_states l.i _ _ (state_after _ _ _) (omega (arith, l.invariant.size)) s l.invariant.traced;
     }

@@ -15,18 +15,18 @@ loop-i-init c =
     record {
       rounds = most (λ (q : Set). q.r) 38 tt tt tt c.args.tables.now.lent.is_set;
       size = refl;
-      followed = λ j h. followed_none _ _ j (opening_on_words c.args.share1 c.args.share2 _ _ _) _ _ (goes c.args.e j h) 40 _ _ s.0 s.1;
+      followed = λ j h. followed_none _ _ j (opening_on_words c.args.share1 c.args.share2 _ _ _) _ _ (goes c.args.e j h) 40 _ _ (s 0 (omega arith)) (s 1 (omega arith));
     }
 
 pub loop-i-preserved : goal.loop-i-preserved
 unfolding rows_of
 loop-i-preserved c =
     let l = c.loop-i in
-    let s = c.advance_shares-s.ensures in
+    let s = c.advance_shares-next.ensures in
     record {
       rounds = l.invariant.rounds;
       size = simp length-set l.invariant.size;
-      followed = λ j h. followed_more _ _ j _ _ _ (goes c.args.e j h) l.i _ _ _ _ _ l.words (omega (arith, l.invariant.rounds, l.invariant.size)) c.gate_row-g.ensures s.0 s.1 (l.invariant.followed j h);
+      followed = λ j h. followed_more _ _ j _ _ _ (goes c.args.e j h) l.i _ _ _ _ _ l.words (omega (arith, l.invariant.rounds, l.invariant.size)) c.gate_row-g.ensures (s 0 (omega arith)) (s 1 (omega arith)) (l.invariant.followed j h);
     }
 
 pub returns : goal.returns

@@ -6,6 +6,7 @@ use Rattle.bits.specs.Words.{block_bits}
 use Rattle.circuit.specs.Round.{Party}
 use Rattle.circuit.specs.Tapes.{party_number}
 use Rattle.lowmc.specs.Cipher.{cipher}
+use Rattle.lowmc.specs.Vectors.{at}
 use Rattle.round.specs.Engine.{opening_on_words}
 use Rattle.round.proofs.VerifierLaws.{Followed}
 use Rattle.round.proofs.recompute.Given as goal
@@ -17,5 +18,5 @@ invariant-loop-i l = record {
   followed : (j : Party)
       → l.fn.e ≡ party_number j
       → Followed (cipher l.tables) (block_bits l.fn.plain) j
-      (opening_on_words l.fn.share1 l.fn.share2 l.tape1 l.tape2 l.given) l.i (block_bits l.s.a) (block_bits l.s.b) l.words;
+      (opening_on_words l.fn.share1 l.fn.share2 l.tape1 l.tape2 l.given) l.i (block_bits (at l.s 0)) (block_bits (at l.s 1)) l.words;
 }

@@ -1,10 +1,11 @@
 -- `round::simulate` meets its contract.
 use native.Mathlib.Omega.{arith}
-use mathlib.Core.Path.{◌≡◌, refl, ◌∙◌}
+use mathlib.Core.Path.{◌≡◌, refl, ap, ◌∙◌}
 use Prim.Native.Nat.{◌+◌}
-use lib.ListN.{length-set}
+use lib.ListN.{length, length-set}
 use Rattle.sets.specs.declared.Set.{Set}
 use Rattle.sets.proofs.Each.{most}
+use Rattle.round.proofs.EngineLaws.{three}
 use Rattle.round.proofs.SignerLaws.{done_none, done_more, done_all}
 use Rattle.round.proofs.simulate.Goals as goal
 
@@ -12,10 +13,8 @@ pub loop-i-init : goal.loop-i-init
 loop-i-init c =
     record {
       rounds = most (λ (q : Set). q.r) 38 tt tt tt c.args.tables.now.lent.is_set;
-      size0 = refl;
-      size1 = refl;
-      size2 = refl;
-      done = done_none _ _ _ _ 40 _ _ (c.state_at.ensures ∙ c.requires.0 0 (omega arith)) c.begin-s.ensures;
+      size = three _ refl refl refl;
+      done = done_none _ _ _ _ 40 _ _ _ (three _ refl refl refl) (c.requires 0 (omega arith)) c.begin-s.ensures;
     }
 
 pub loop-i-preserved : goal.loop-i-preserved
@@ -25,14 +24,11 @@ loop-i-preserved c =
     let v = l.invariant in
     record {
       rounds = v.rounds;
-      size0 = simp length-set v.size0;
-      size1 = simp length-set v.size1;
-      size2 = simp length-set v.size2;
+      size = λ j. ap length (c.put_rows.ensures j) ∙ simp length-set (v.size j);
       done =
-          done_more _ _ _ _ l.i _ _ _ _ _ l.a l.b l.c c.loop-i-test.true
-          (omega (arith, v.rounds, v.size0)) (omega (arith, v.rounds, v.size1)) (omega (arith, v.rounds, v.size2))
+          done_more _ _ _ _ l.i _ _ _ _ _ _ _ c.loop-i-test.true (λ j. omega (arith, v.rounds, v.size j)) c.put_rows.ensures
           (c.rows_at.ensures t.keys.now t.layers.now t.constants.now) c.gate_rows-g.ensures
-          (c.state_at-whole.ensures ∙ c.requires.0 (l.i + 1) (omega arith)) c.step-s.ensures v.done;
+          (c.requires (l.i + 1) (omega arith)) c.step-next.ensures v.done;
     }
 
 pub returns : goal.returns

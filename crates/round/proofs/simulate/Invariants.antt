@@ -1,10 +1,11 @@
 -- `round::simulate` meets its contract.
-use mathlib.Core.Path.{◌≡◌}
 use Prim.Native.Nat.{◌≤◌}
+use mathlib.Core.Path.{◌≡◌}
 use lib.ListN.{length}
 use Rattle.bits.specs.Words.{block_bits}
+use Rattle.circuit.specs.Round.{Party}
 use Rattle.lowmc.specs.Cipher.{cipher}
-use Rattle.round.specs.Engine.{share_in}
+use Rattle.round.specs.Engine.{share_in, said_in}
 use Rattle.round.specs.Inputs.{tapes_of}
 use Rattle.round.proofs.SignerLaws.{Done}
 use Rattle.round.proofs.simulate.Given as goal
@@ -12,9 +13,6 @@ use Rattle.round.proofs.simulate.Given as goal
 abbrev pub invariant-loop-i : goal.invariant-loop-i
 invariant-loop-i l = record {
   rounds : l.tables.set.r ≤ 38;
-  size0 : length l.a ≡ 40;
-  size1 : length l.b ≡ 40;
-  size2 : length l.c ≡ 40;
-  done : Done (cipher l.tables) (block_bits l.fn.plain) (share_in l.x)
-      (tapes_of (cipher l.tables) l.t0 l.t1 l.t2) l.i (share_in l.s) l.a l.b l.c;
+  size : (j : Party) → length (said_in l.said j) ≡ 40;
+  done : Done (cipher l.tables) (block_bits l.fn.plain) (share_in l.x) (tapes_of (cipher l.tables) l.t0 l.t1 l.t2) l.i (share_in l.s) (said_in l.said);
 }

@@ -1,7 +1,6 @@
 -- `signer::sign_known` meets its contract.
 use mathlib.Core.Path.{sym, ◌∙◌}
 use Rattle.signer.proofs.SignLaws.{handed, fitting, stopped, unpaired, signed}
-use borrow.Author.Rules.{rules}
 use Rattle.signer.proofs.sign_known.Goals as goal
 
 pub returns-then-not-fine : goal.returns-then-not-fine
@@ -19,7 +18,7 @@ traced-requires c =
     let a = c.args in
     let g = handed 0 a.keys.now a.layers.now a.constants.now a.secret.now a.public.now a.message.now a.limit a.seeds.now a.room.now a.output.now in
     let f = fitting c.requires g _ c.refused-why.ensures (sym c.fine.ensures ∙ c.if-not-fine.false) in
-    (f.secret-wide, f.public-long, search rules)
+    (f.secret-wide, f.public-long)
 
 pub invariant_of-signing : goal.invariant_of-signing
 invariant_of-signing c =
@@ -27,7 +26,7 @@ invariant_of-signing c =
     let g = handed 0 a.keys.now a.layers.now a.constants.now a.secret.now a.public.now a.message.now a.limit a.seeds.now a.room.now a.output.now in
     let f = fitting c.requires g _ c.refused-why.ensures (sym c.fine.ensures ∙ c.if-not-fine.false) in
     record {
-      ready = record { lent = f.lent; secret-wide = f.secret-wide; public-long = f.public-long; seeds-long = f.seeds-long; traced = c.traced.ensures; states_long = search rules };
+      ready = record { lent = f.lent; secret-wide = f.secret-wide; public-long = f.public-long; seeds-long = f.seeds-long; traced = c.traced.ensures };
     }
 
 pub returns-then-not-paired : goal.returns-then-not-paired

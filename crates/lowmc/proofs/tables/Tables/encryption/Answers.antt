@@ -8,7 +8,7 @@ use Rattle.lowmc.proofs.tables.Tables.encryption.Goals as goal
 pub loop-i-init : goal.loop-i-init
 loop-i-init c =
     let a = c.args in
-    state-none (cipher a.self.now) (block_bits a.key) (block_bits a.block) _ c.start-x.ensures
+    state-none (cipher a.self.now) (block_bits a.key) (block_bits a.block) _ (c.start.ensures 0 (omega arith))
 
 pub loop-i-preserved : goal.loop-i-preserved
 loop-i-preserved c =

@@ -1,4 +1,10 @@
 -- `signer::signing::Signing::commitment_of` meets its contract.
+use mathlib.Core.Path.{ap}
+use mathlib.Core.List.{[]}
+use Prim.Native.Nat.{ℕ}
+use lib.ListN.{get_or}
+use Rattle.bits.specs.Words.{block_bits}
+use Rattle.lowmc.specs.Vectors.{at}
 use Rattle.lowmc.specs.Cipher.{cipher}
 use Rattle.lowmc.specs.Encrypted.{plaintext}
 use Rattle.views.specs.Signed.{seed_at, salt_at}
@@ -14,4 +20,4 @@ returns c =
     λ k q.
     commitment_as p (cipher s.tables) (salt_at p s.seeds.now) a.t (seed_at p s.seeds.now a.t) s.secret.now (plaintext p s.public.now) a.x.now k c.requires.2
     (seed_part p s.seeds.now c.seed_width-s.result c.seed_width-s.ensures a.t a.j k q)
-    (c.block_of.ensures k q) (c.said_of.ensures k q) (c.block_of-2.ensures k q) c.commit_party.ensures
+    (ap (λ (z : ℕ). block_bits (at a.x.now.inputs z)) q) (ap (λ (z : ℕ). get_or a.x.now.said z []) q) (ap (λ (z : ℕ). block_bits (at a.x.now.outputs z)) q) c.commit_party.ensures

@@ -15,12 +15,10 @@ use Rattle.signer.proofs.signing.Signing.play.Goals as goal
 pub simulate-v-requires : goal.simulate-v-requires
 simulate-v-requires c =
     let a = c.args in
-    let s = a.self.now in (
-      traced_as (cipher s.tables) _ _ _ _ s.states.now
-          (shares_xor s.tables.set.n _ a.t0.now a.t1.now (share_in c.input_shares-x.result) c.input_shares-x.ensures ∙ c.load.ensures)
-          (c.load-plain.ensures ∙ ap bits_of (rest_as s.public.now _ _ c.width-w.ensures)) s.ready.traced,
-      s.ready.states_long,
-    )
+    let s = a.self.now in
+    traced_as (cipher s.tables) _ _ _ _ s.states.now
+    (shares_xor s.tables.set.n _ a.t0.now a.t1.now (share_in c.input_shares-x.result) c.input_shares-x.ensures ∙ c.load.ensures)
+    (c.load-plain.ensures ∙ ap bits_of (rest_as s.public.now _ _ c.width-w.ensures)) s.ready.traced
 
 pub returns : goal.returns
 returns c =

@@ -1,7 +1,10 @@
 -- `signer::signing::Signing::write_shown` meets its contract.
 use mathlib.Core.Path.{ap, ◌∙◌}
+use mathlib.Core.List.{[]}
+use Prim.Native.Nat.{ℕ}
+use lib.ListN.{get_or}
 use Rattle.slices.specs.Slices.{put}
-use Rattle.circuit.specs.Round.{next, third}
+use Rattle.circuit.specs.Round.{third}
 use Rattle.lowmc.specs.Encrypted.{plaintext}
 use Rattle.shape.specs.Form.{Shown, round_of}
 use Rattle.views.specs.Parties.{party_of}
@@ -19,5 +22,5 @@ returns c =
           (shown_as p s.tables.keys.now s.tables.layers.now s.tables.constants.now s.secret.now (plaintext p s.public.now) s.seeds.now a.t a.e
           a.x.now _ _ _ c.requires.2
           (c.commitment_of-commitment.ensures (third (party_of a.e)) (number-last a.e c.requires.1))
-          (c.said_of-transcript.ensures (next (party_of a.e)) (number_after a.e c.requires.1)) c.shown_share-share.ensures),
+          (ap (λ (z : ℕ). get_or a.x.now.said z []) (number_after a.e c.requires.1)) c.shown_share-share.ensures),
     )
