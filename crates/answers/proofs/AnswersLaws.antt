@@ -1,48 +1,45 @@
 -- Laws of the refusals' numbers and of ordered checks.
-use mathlib.Core.Path.{◌≡◌, refl, sym, ap, ◌∙◌}
+use mathlib.Core.Path.{◌≡◌, refl}
 use mathlib.Core.Bool.{Bool, true, false, cond}
 use mathlib.Core.List.{List, [], ◌∷◌, ◌++◌}
 use Prim.Native.Nat.{ℕ, ◌^◌, ◌≤◌, ◌<◌}
 use native.Mathlib.Omega.{arith}
-use lib.Dec.{T, lit≤}
+use lib.Dec.{lit≤}
+use Rattle.std.proofs.Common.{Ok, Err}
 use Rattle.answers.specs.declared.Refusal.{Refusal}
-use Rattle.answers.specs.declared.Refusal.TheVariants.{Fine, NoSet, Table, Key, Message, Limit, Room, Pair, Blocks, Length, Header, Padding, Differs}
-use Rattle.answers.specs.Answers.{number, fine, Check, when, first, answer, Halves}
+use Rattle.answers.specs.declared.Refusal.TheVariants.{NoSet, Table, Key, Message, Limit, Room, Pair, Blocks, Length, Header, Padding, Differs}
+use Rattle.answers.specs.Answers.{Checked, Fine, fine, number, code, Check, when, first, answer, Halves}
 
--- by cases, for any property
-pub each_refusal : (P : Refusal → Type 0) → P Fine → P NoSet → P Table → P Key → P Message → P Limit → P Room → P Pair → P Blocks
-    → P Length → P Header → P Padding → P Differs → (r : Refusal) → P r
-each_refusal P a b c d e f g h i j k l m Fine = a
-each_refusal P a b c d e f g h i j k l m NoSet = b
-each_refusal P a b c d e f g h i j k l m Table = c
-each_refusal P a b c d e f g h i j k l m Key = d
-each_refusal P a b c d e f g h i j k l m Message = e
-each_refusal P a b c d e f g h i j k l m Limit = f
-each_refusal P a b c d e f g h i j k l m Room = g
-each_refusal P a b c d e f g h i j k l m Pair = h
-each_refusal P a b c d e f g h i j k l m Blocks = i
-each_refusal P a b c d e f g h i j k l m Length = j
-each_refusal P a b c d e f g h i j k l m Header = k
-each_refusal P a b c d e f g h i j k l m Padding = l
-each_refusal P a b c d e f g h i j k l m Differs = m
+-- ---- numbers
 
--- a refusal's number is small
-pub number-most : (r : Refusal) → number r ≤ 12
-number-most =
-    each_refusal (λ (r : Refusal). number r ≤ 12) (lit≤ tt) (lit≤ tt) (lit≤ tt) (lit≤ tt) (lit≤ tt) (lit≤ tt) (lit≤ tt) (lit≤ tt) (lit≤ tt) (lit≤ tt)
-    (lit≤ tt) (lit≤ tt) (lit≤ tt)
+-- no refusal has the number 0
+pub number-least : (r : Refusal) → 1 ≤ number r
+number-least NoSet = lit≤ tt
+number-least Table = lit≤ tt
+number-least Key = lit≤ tt
+number-least Message = lit≤ tt
+number-least Limit = lit≤ tt
+number-least Room = lit≤ tt
+number-least Pair = lit≤ tt
+number-least Blocks = lit≤ tt
+number-least Length = lit≤ tt
+number-least Header = lit≤ tt
+number-least Padding = lit≤ tt
+number-least Differs = lit≤ tt
 
-no : {A : Type 0} → false ≡ true → A
-no e = let z : ◌≡◌ {A = ℕ} 1 0 = ap (λ (b : Bool). cond b 0 1) e in absurd (omega arith)
+-- so 0 is that of nothing refused
+pub zero_is : (c : Checked) → code c ≡ 0 → c ≡ Fine
+zero_is (Ok done) e = refl
+zero_is (Err r) e = absurd (omega (arith, number-least r))
 
--- only Fine is fine
-pub fine_is : (r : Refusal) → fine r ≡ true → r ≡ Fine
-fine_is = each_refusal (λ (r : Refusal). fine r ≡ true → r ≡ Fine) (λ e. refl) no no no no no no no no no no no no
+pub fine_is : (c : Checked) → fine c ≡ true → c ≡ Fine
+fine_is (Ok done) e = refl
+fine_is (Err r) e = cc
 
 -- ---- the first check that holds
 
 -- a check that holds is answered
-pub stop : (b : Bool) (r : Refusal) (ks : List Check) → b ≡ true → first (when b r ∷ ks) ≡ r
+pub stop : (b : Bool) (r : Refusal) (ks : List Check) → b ≡ true → first (when b r ∷ ks) ≡ Err r
 unfolding first
 stop b r ks e = rw e
 
@@ -51,81 +48,68 @@ pub skip : (b : Bool) (r : Refusal) (ks : List Check) → b ≡ false → first 
 unfolding first
 skip b r ks e = rw e
 
--- each check of a list gives a refusal
-abbrev pub refusing : List Check → Bool
-refusing [] = true
-refusing (k ∷ ks) = cond (fine k.gives) false (refusing ks)
+stop-one : (b : Bool) (g r : Refusal) (x z : Checked) → (x ≡ Err r → z ≡ Err r) → cond b (Err g) x ≡ Err r → cond b (Err g) z ≡ Err r
+stop-one true g r x z h e = e
+stop-one false g r x z h e = h e
 
-joined-one : (b f : Bool) (g x y z : Refusal) (rest : Bool) → fine g ≡ f → T (cond f false rest) → (T rest → z ≡ cond (fine x) y x)
-    → cond b g z ≡ cond (fine (cond b g x)) y (cond b g x)
-joined-one true false g x y z rest e t h = rw e
-joined-one false false g x y z rest e t h = h t
-joined-one b true g x y z rest e t h = absurd t
-
--- two groups of checks: the second is asked where the first passes
-pub first-append : (xs ys : List Check) → T (refusing xs) → first (xs ++ ys) ≡ cond (fine (first xs)) (first ys) (first xs)
+-- of two groups of checks the first refuses
+pub group_stop : (xs ys : List Check) {r : Refusal} → first xs ≡ Err r → first (xs ++ ys) ≡ Err r
 unfolding first
-first-append [] ys t = refl
-first-append (k ∷ xs) ys t =
-    joined-one k.holds (fine k.gives) k.gives (first xs) (first ys) (first (xs ++ ys)) (refusing xs) refl t (first-append xs ys)
+group_stop [] ys {r} e = cc
+group_stop (k ∷ xs) ys {r} e = stop-one k.holds k.gives r (first xs) (first (xs ++ ys)) (group_stop xs ys) e
 
--- r is what a first group answers: a check of it holds
-pub group_stop : (xs ys : List Check) → T (refusing xs) → {r : Refusal} → r ≡ first xs → fine r ≡ false → first (xs ++ ys) ≡ r
-group_stop xs ys t e n = first-append xs ys t ∙ rw (← e, n)
+skip-one : (b : Bool) (g : Refusal) (x y z : Checked) → (x ≡ Fine → z ≡ y) → cond b (Err g) x ≡ Fine → cond b (Err g) z ≡ y
+skip-one true g x y z h e = cc
+skip-one false g x y z h e = h e
 
--- or none of it does
-pub group_skip : (xs ys : List Check) → T (refusing xs) → {r : Refusal} → r ≡ first xs → fine r ≡ true → first (xs ++ ys) ≡ first ys
-group_skip xs ys t e y = first-append xs ys t ∙ rw (← e, y)
+-- or the second is asked
+pub group_skip : (xs ys : List Check) → first xs ≡ Fine → first (xs ++ ys) ≡ first ys
+unfolding first
+group_skip [] ys e = refl
+group_skip (k ∷ xs) ys e = skip-one k.holds k.gives (first xs) (first ys) (first (xs ++ ys)) (group_skip xs ys) e
 
 -- no check of a list holds
 abbrev pub NoneHolds : List Check → Type 0
 NoneHolds [] = Unit
 NoneHolds (k ∷ ks) = (k.holds ≡ false) × NoneHolds ks
 
-passed-one : (b f : Bool) (g x : Refusal) (rest : Bool) → fine g ≡ f → T (cond f false rest) → cond b g x ≡ Fine → (b ≡ false) × (T rest × (x ≡ Fine))
-passed-one false false g x rest e t h = (refl, (t, h))
-passed-one true false g x rest e t h = no (sym e ∙ ap fine h)
-passed-one b true g x rest e t h = absurd t
+passed-one : (b : Bool) (g : Refusal) (x : Checked) → cond b (Err g) x ≡ Fine → (b ≡ false) × (x ≡ Fine)
+passed-one false g x h = (refl, h)
+passed-one true g x h = cc
 
 -- where nothing is refused no check holds
-pub none-holds : (ks : List Check) → T (refusing ks) → first ks ≡ Fine → NoneHolds ks
+pub none-holds : (ks : List Check) → first ks ≡ Fine → NoneHolds ks
 unfolding first
-none-holds [] t e = tt
-none-holds (k ∷ ks) t e =
-    let x = passed-one k.holds (fine k.gives) k.gives (first ks) (refusing ks) refl t e in
-    (x.0, none-holds ks x.1.0 x.1.1)
-
--- where r is what they answer, and refuses nothing
-pub group_none : (ks : List Check) → T (refusing ks) → {r : Refusal} → r ≡ first ks → fine r ≡ true → NoneHolds ks
-group_none ks t {r} e f = none-holds ks t (sym e ∙ fine_is r f)
+none-holds [] e = tt
+none-holds (k ∷ ks) e = let x = passed-one k.holds k.gives (first ks) e in (x.0, none-holds ks x.1)
 
 -- ---- checks 2 to 6 in their order, whatever their conditions
 
 module _ (tables keys message limit room : Bool) where
-  abbrev answered : Refusal
+  abbrev answered : Checked
   answered = first (when tables Table ∷ when keys Key ∷ when message Message ∷ when limit Limit ∷ when room Room ∷ [])
 
-  pub first_table : tables ≡ true → Table ≡ answered
+  pub first_table : tables ≡ true → Err Table ≡ answered
   unfolding first
   first_table a = rw a
 
   module _ (a : tables ≡ false) where
-    pub first_key : keys ≡ true → Key ≡ answered
+    pub first_key : keys ≡ true → Err Key ≡ answered
     unfolding first
     first_key b = rw (a, b)
 
     module _ (b : keys ≡ false) where
-      pub first-message : message ≡ true → Message ≡ answered
+      pub first-message : message ≡ true → Err Message ≡ answered
       unfolding first
       first-message c = rw (a, b, c)
 
       module _ (c : message ≡ false) where
-        pub first-limit : limit ≡ true → Limit ≡ answered
+        pub first-limit : limit ≡ true → Err Limit ≡ answered
         unfolding first
         first-limit d = rw (a, b, c, d)
 
         module _ (d : limit ≡ false) where
-          pub first-room : room ≡ true → Room ≡ answered
+          pub first-room : room ≡ true → Err Room ≡ answered
           unfolding first
           first-room e = rw (a, b, c, d, e)
 
@@ -135,5 +119,5 @@ module _ (tables keys message limit room : Bool) where
 
 -- ---- the halves of an answer
 
-pub halves_of : (r : Refusal) (n : ℕ) → n < 2 ^ 32 → Halves (answer r n) r n
-halves_of r n h = record { upper = omega arith; lower = omega arith; small = h }
+pub halves_of : (c : Checked) (n : ℕ) → n < 2 ^ 32 → Halves (answer c n) c n
+halves_of c n h = record { upper = omega arith; lower = omega arith; small = h }

@@ -1,39 +1,42 @@
 -- The outcome of a call that writes one output, and what such a call promises of its answer and of the output.
-use Rattle.std.specs.Prelude.{◌≡◌, cond, List, [], ℕ, length}
+use Rattle.std.specs.Prelude.{◌≡◌, cond, List, [], ℕ, length, Option, Some, None, Ok, Err}
 use Rattle.slices.specs.Slices.{Bytes, over}
 use Rattle.sets.specs.declared.Set.{Set}
-use Rattle.sets.specs.declared.Chosen.{Chosen}
-use Rattle.sets.specs.declared.Chosen.TheVariants.{Known, Unknown}
 use Rattle.answers.specs.declared.Refusal.{Refusal}
-use Rattle.answers.specs.declared.Refusal.TheVariants.{Fine, NoSet}
-use Rattle.answers.specs.Answers.{fine, Check, first, answer}
+use Rattle.answers.specs.declared.Refusal.TheVariants.{NoSet}
+use Rattle.answers.specs.Answers.{Checked, Fine, Check, first, answer}
 
 -- a call refuses, or gives bytes
 pub data Outcome : Type 0 where
   refused : Refusal → Outcome
   gives : Bytes → Outcome
 
+-- a refusal, or the bytes where nothing is refused
+abbrev pub after : Checked → Bytes → Outcome
+after (Ok done) vs = gives vs
+after (Err r) vs = refused r
+
 -- the first check that holds refuses; where none does, the bytes are given
 unfoldable pub unless : List Check → Bytes → Outcome
-unless ks vs = cond (fine (first ks)) (gives vs) (refused (first ks))
+unless ks vs = after (first ks) vs
 
 -- a check in front of an outcome: where it holds, it refuses
 unfoldable pub behind : Check → Outcome → Outcome
 behind k o = cond k.holds (refused k.gives) o
 
 -- 1: the set is not 1, 2 or 3; else the call goes on with the set
-unfoldable pub with_set : Chosen → (Set → Outcome) → Outcome
-with_set Unknown f = refused NoSet
-with_set (Known set) f = f set
+unfoldable pub with_set : Option Set → (Set → Outcome) → Outcome
+with_set None f = refused NoSet
+with_set (Some set) f = f set
 
 -- the number a host gets back: bytes written is 0 on a refusal
 unfoldable pub answer_of : Outcome → ℕ
-answer_of (refused r) = answer r 0
+answer_of (refused r) = answer (Err r) 0
 answer_of (gives vs) = answer Fine (length vs)
 
 -- its refusal, and the bytes that it writes
-abbrev pub refusal_of : Outcome → Refusal
-refusal_of (refused r) = r
+abbrev pub refusal_of : Outcome → Checked
+refusal_of (refused r) = Err r
 refusal_of (gives vs) = Fine
 
 abbrev pub written_by : Outcome → Bytes

@@ -3,40 +3,38 @@
 
 ghost use Rattle.std.specs.Prelude.{◌≡◌};
 ghost use Rattle.sets.specs.Sets.{IsSet};
-ghost use Rattle.answers.specs.Answers.{number, fine, answer};
+ghost use Rattle.answers.specs.Answers.{number, back};
 ghost use Rattle.answers.specs.Conditions.{tables_other, blocks_other, keys_other, message_out, limit_out};
 
 use sets::Set;
 
-// What 01's table of numbers says, case by case.
-#[derive(Clone, Copy)]
+// Why a call refuses, with 01's number of each case.
+#[derive(Clone, Copy, Debug, PartialEq, Eq)]
 pub enum Refusal {
-    // Done, or valid.
-    Fine,
     // The set is not 1, 2 or 3.
-    NoSet,
+    NoSet = 1,
     // A table has another length.
-    Table,
+    Table = 2,
     // A key or block has another length.
-    Key,
+    Key = 3,
     // The message is empty or too long.
-    Message,
+    Message = 4,
     // The block limit is 0 or above 64.
-    Limit,
+    Limit = 5,
     // Room or an output is too short, or seeds or a hash's output have a wrong length.
-    Room,
+    Room = 6,
     // LowMC of p under the secret key is not C.
-    Pair,
+    Pair = 7,
     // Fewer than T values in the allowed blocks.
-    Blocks,
+    Blocks = 8,
     // The length of a signature or an unpacked form is wrong.
-    Length,
+    Length = 9,
     // A header pair or header padding, or an unpacked value, is none.
-    Header,
+    Header = 10,
     // Padding of a transcript, or a share beside value 0, is not zero.
-    Padding,
+    Padding = 11,
     // The recomputed challenge differs.
-    Differs,
+    Differs = 12,
 }
 
 // The longest message.
@@ -48,41 +46,22 @@ pub const HASH_MOST: usize = 1_048_576;
 // The largest block limit.
 pub const LIMIT_MOST: u64 = 64;
 
-impl Refusal {
+impl From<Refusal> for u64 {
+    ghost from_gives = { λ refusal n. n ≡ number refusal };
+
     // 01's number of a refusal.
-    pub fn number(self) -> u64
-        ensures { result ≡ number self }
-    {
-        let r = self;
-        match r {
-            Refusal::Fine => 0,
-            Refusal::NoSet => 1,
-            Refusal::Table => 2,
-            Refusal::Key => 3,
-            Refusal::Message => 4,
-            Refusal::Limit => 5,
-            Refusal::Room => 6,
-            Refusal::Pair => 7,
-            Refusal::Blocks => 8,
-            Refusal::Length => 9,
-            Refusal::Header => 10,
-            Refusal::Padding => 11,
-            Refusal::Differs => 12,
-        }
+    fn from(refusal: Refusal) -> u64 {
+        refusal as u64
     }
+}
 
-    // Nothing is refused.
-    pub fn fine(self) -> bool
-        ensures { result ≡ fine self }
-    {
-        self.number() == 0
-    }
-
-    // What a host gets back: the refusal's number above the length.
-    pub fn answer(self, length: u32) -> u64
-        ensures { result ≡ answer self length }
-    {
-        self.number() * 0x1_0000_0000 + length as u64
+// What a host gets back of a call: the number of a refusal above 32 zero bits, or how many bytes were written.
+pub fn answer(outcome: Result<u32, Refusal>) -> u64
+    ensures { result ≡ back outcome }
+{
+    match outcome {
+        Ok(length) => u64::from(length),
+        Err(refusal) => u64::from(refusal) * 0x1_0000_0000,
     }
 }
 

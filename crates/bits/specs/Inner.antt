@@ -1,7 +1,6 @@
 -- Cited by inner contracts alone: words whose first byte is the lowest, as a matrix's rows are loaded.
-use Rattle.std.specs.Prelude.{ℕ, ◌+◌, ◌-◌, ◌*◌, ◌/◌, ◌%◌, ◌^◌, get_or}
-use Rattle.bits.specs.Bits.{Bits, from}
-use Rattle.bits.specs.Bytes.{value}
+use Rattle.std.specs.Prelude.{◌+◌, ◌-◌, ◌*◌, ◌/◌, ◌%◌, get_or}
+use Rattle.bits.specs.Bits.{Bits}
 use Rattle.bits.specs.Words.{word_bits}
 use Rattle.bits.specs.declared.Block.{Block}
 
@@ -12,7 +11,3 @@ bytes_reversed f i = f (8 * (7 - i / 8) + i % 8)
 -- the bits of a block whose words have their bytes in the other order
 unfoldable pub low_bits : Block → Bits
 low_bits b i = bytes_reversed (word_bits (get_or b.words (i / 64) 0)) (i % 64)
-
--- four bytes as a number, the first byte lowest
-abbrev pub low_four : Bits → ℕ
-low_four x = value 8 x + value 8 (from 8 x) * 2 ^ 8 + value 8 (from 16 x) * 2 ^ 16 + value 8 (from 24 x) * 2 ^ 24

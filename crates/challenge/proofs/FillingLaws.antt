@@ -11,8 +11,10 @@ use borrow.Author.Tests.{lt-ltb, le-ltb}
 use Rattle.slices.specs.Slices.{Bytes, over}
 use Rattle.slices.proofs.SliceLaws.{length_over, over_none, over_store}
 use Rattle.sets.specs.declared.Set.{Set}
-use Rattle.challenge.specs.declared.Filled.{Filled}
-use Rattle.challenge.specs.declared.Filled.TheVariants.{Full, Short}
+use Rattle.std.proofs.Common.{Err}
+use Rattle.answers.specs.declared.Refusal.{Refusal}
+use Rattle.answers.specs.declared.Refusal.TheVariants.{Blocks}
+use Rattle.answers.specs.Answers.{Checked, Fine}
 use Rattle.challenge.specs.Pairs.{pair, value_of, values_to}
 use Rattle.challenge.specs.Blocks.{chain, stream_values, too_few, first_values}
 use Rattle.challenge.specs.Filling.{Fills}
@@ -119,7 +121,7 @@ module _ {t : ℕ} {vs : Bytes} {got : ℕ} {before after : Bytes} (f : Ended t 
   ended_size = ap length f.wrote ∙ length_over f.xs before (omega (arith, most, f.count, f.fits))
 
 module _ (p : Set) (b : Bytes) (limit : ℕ) {got : ℕ} {before after : Bytes} (f : Ended p.t (stream_values p b limit) got before after) where
-  pub ended_short : got < p.t → Fills p b limit before Short after
+  pub ended_short : got < p.t → Fills p b limit before (Err Blocks) after
   unfolding too_few first_values
   ended_short h =
       let vs = stream_values p b limit in
@@ -130,7 +132,7 @@ module _ (p : Set) (b : Bytes) (limit : ℕ) {got : ℕ} {before after : Bytes} 
         left = f.wrote ∙ ap (λ (x : Bytes). over x before) (sym (take_all p.t vs (omega arith) ∙ e));
       }
 
-  pub ended_full : p.t ≤ got → Fills p b limit before Full after
+  pub ended_full : p.t ≤ got → Fills p b limit before Fine after
   unfolding too_few first_values
   ended_full h =
       let vs = stream_values p b limit in
@@ -143,23 +145,25 @@ module _ (p : Set) (b : Bytes) (limit : ℕ) {got : ℕ} {before after : Bytes} 
 
 -- ---- what a caller gets
 
-is_few : (b : Bool) → cond b Short Full ≡ Short → b ≡ true
-is_few true e = refl
-is_few false e = absurd (let z : ◌≡◌ {A = ℕ} 0 1 = cc in omega arith)
+is_few : (b : Bool) {x : Refusal} → ◌≡◌ {A = Checked} (cond b (Err Blocks) Fine) (Err x) → (b ≡ true) × (x ≡ Blocks)
+is_few true {x} e = (refl, cc)
+is_few false {x} e = cc
 
-is_enough : (b : Bool) → cond b Short Full ≡ Full → b ≡ false
-is_enough true e = absurd (let z : ◌≡◌ {A = ℕ} 0 1 = cc in omega arith)
+is_enough : (b : Bool) → ◌≡◌ {A = Checked} (cond b (Err Blocks) Fine) Fine → b ≡ false
+is_enough true e = cc
 is_enough false e = refl
 
-module _ {p : Set} {b : Bytes} {limit : ℕ} {before after : Bytes} {r : Filled} (f : Fills p b limit before r after) where
-  pub fills_short : r ≡ Short → too_few p b limit ≡ true
+module _ {p : Set} {b : Bytes} {limit : ℕ} {before after : Bytes} {r : Checked} (f : Fills p b limit before r after) where
+  -- where it refuses
+  pub fills_short : {x : Refusal} → r ≡ Err x → (too_few p b limit ≡ true) × (x ≡ Blocks)
   fills_short e = is_few (too_few p b limit) (sym f.answered ∙ e)
 
-  pub fills_full : r ≡ Full → too_few p b limit ≡ false
+  -- and where not
+  pub fills_full : r ≡ Fine → too_few p b limit ≡ false
   fills_full e = is_enough (too_few p b limit) (sym f.answered ∙ e)
 
   -- the first T bytes of the slice
-  pub fills_front : r ≡ Full → take p.t after ≡ first_values p b limit
+  pub fills_front : r ≡ Fine → take p.t after ≡ first_values p b limit
   unfolding over
   fills_front e =
       rw f.left

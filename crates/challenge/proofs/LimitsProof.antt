@@ -7,9 +7,9 @@ use native.Mathlib.Omega.{arith}
 use lib.Dec.{eqb, ltb}
 use lib.ListN.{length}
 use borrow.Author.Tests.{lt-ltb, le-ltb, ne_eqb, eqb-false}
+use Rattle.std.proofs.Common.{Option, Some, None}
+use Rattle.sets.specs.declared.Set.{Set}
 use Rattle.slices.specs.Slices.{Bytes, joined}
-use Rattle.sets.specs.declared.Chosen.{Chosen}
-use Rattle.sets.specs.declared.Chosen.TheVariants.{Known, Unknown}
 use Rattle.sets.specs.Sets.{numbered, l1, is_l1}
 use Rattle.bits.proofs.NumberLaws.{below}
 use Rattle.answers.specs.Conditions.{limit_out}
@@ -48,12 +48,12 @@ larger_legal limit larger e n m =
 
 pub limit_settles_blocks : LimitSettlesBlocks
 unfolding LimitSettlesBlocks
-limit_settles_blocks Unknown input limit larger output o n m =
-    inr (challenged_no_set Unknown input larger output refl ∙ sym (challenged_no_set Unknown input limit output refl))
-limit_settles_blocks (Known p) input limit larger output o n m =
+limit_settles_blocks None input limit larger output o n m =
+    inr (challenged_no_set None input larger output refl ∙ sym (challenged_no_set None input limit output refl))
+limit_settles_blocks (Some p) input limit larger output o n m =
     ⊎_elim
     (λ (s : output < p.t).
-    inr (challenged-room (Known p) input larger output p refl o' s ∙ sym (challenged-room (Known p) input limit output p refl o s)))
+    inr (challenged-room (Some p) input larger output p refl o' s ∙ sym (challenged-room (Some p) input limit output p refl o s)))
     (λ (s : p.t ≤ output). settled s (too_few p (h p 1 input) limit) refl)
     (below output p.t)
   where
@@ -61,20 +61,20 @@ limit_settles_blocks (Known p) input limit larger output o n m =
     o' = larger_legal limit larger o n m
 
     settled : p.t ≤ output → (few : Bool) → too_few p (h p 1 input) limit ≡ few
-        → (challenged (Known p) input limit output ≡ refused Blocks) ⊎ (challenged (Known p) input larger output ≡ challenged (Known p) input limit output)
-    settled s true f = inl (challenged-few (Known p) input limit output p refl o s f)
+        → (challenged (Some p) input limit output ≡ refused Blocks) ⊎ (challenged (Some p) input larger output ≡ challenged (Some p) input limit output)
+    settled s true f = inl (challenged-few (Some p) input limit output p refl o s f)
     settled s false f =
         inr
-        (challenged-given (Known p) input larger output p refl o' s (enough_after p (h p 1 input) limit f larger n)
-        ∙ (ap gives (first_after p (h p 1 input) limit f larger n) ∙ sym (challenged-given (Known p) input limit output p refl o s f)))
+        (challenged-given (Some p) input larger output p refl o' s (enough_after p (h p 1 input) limit f larger n)
+        ∙ (ap gives (first_after p (h p 1 input) limit f larger n) ∙ sym (challenged-given (Some p) input limit output p refl o s f)))
 
-legal-given : (c : Chosen) (input : Bytes) (limit output : ℕ) (vs : Bytes) → challenged c input limit output ≡ gives vs → (out : Bool)
+legal-given : (c : Option Set) (input : Bytes) (limit output : ℕ) (vs : Bytes) → challenged c input limit output ≡ gives vs → (out : Bool)
     → limit_out limit ≡ out → out ≡ false
 legal-given c input limit output vs g false o = refl
-legal-given Unknown input limit output vs g true o =
-    absurd (let z : ◌≡◌ {A = ℕ} 0 1 = cc (challenged_no_set Unknown input limit output refl) in omega arith)
-legal-given (Known p) input limit output vs g true o =
-    absurd (let z : ◌≡◌ {A = ℕ} 0 1 = cc (challenged-limit (Known p) input limit output p refl o) in omega arith)
+legal-given None input limit output vs g true o =
+    absurd (let z : ◌≡◌ {A = ℕ} 0 1 = cc (challenged_no_set None input limit output refl) in omega arith)
+legal-given (Some p) input limit output vs g true o =
+    absurd (let z : ◌≡◌ {A = ℕ} 0 1 = cc (challenged-limit (Some p) input limit output p refl o) in omega arith)
 
 pub larger_limit-gives_same : LargerLimitGivesSame
 unfolding LargerLimitGivesSame LimitSettlesBlocks

@@ -1,8 +1,7 @@
 -- The call that computes a challenge from an input and a block limit.
-use Rattle.std.specs.Prelude.{List, [], ◌∷◌, ℕ, length}
+use Rattle.std.specs.Prelude.{List, [], ◌∷◌, ℕ, length, Option}
 use Rattle.slices.specs.Slices.{Bytes}
 use Rattle.sets.specs.declared.Set.{Set}
-use Rattle.sets.specs.declared.Chosen.{Chosen}
 use Rattle.sets.specs.Sets.{numbered}
 use Rattle.answers.specs.declared.Refusal.TheVariants.{Limit, Room, Blocks}
 use Rattle.answers.specs.Answers.{Check, when}
@@ -20,7 +19,7 @@ challenge_checks set input limit output =
     ∷ []
 
 -- the call writes T values, one a byte
-unfoldable pub challenged : Chosen → (input : Bytes) (limit output : ℕ) → Outcome
+unfoldable pub challenged : Option Set → (input : Bytes) (limit output : ℕ) → Outcome
 challenged c input limit output =
     with_set c (λ set. unless (challenge_checks set input limit output) (first_values set (h set 1 input) limit))
 

@@ -1,7 +1,7 @@
 -- What the block limit does to the outcome of the challenge call.
-use Rattle.std.specs.Prelude.{◌≡◌, ◌⊎◌, false, ℕ, ◌≤◌}
+use Rattle.std.specs.Prelude.{◌≡◌, ◌⊎◌, false, ℕ, ◌≤◌, Option}
+use Rattle.sets.specs.declared.Set.{Set}
 use Rattle.slices.specs.Slices.{Bytes}
-use Rattle.sets.specs.declared.Chosen.{Chosen}
 use Rattle.sets.specs.Sets.{numbered}
 use Rattle.answers.specs.declared.Refusal.TheVariants.{Blocks}
 use Rattle.answers.specs.Conditions.{limit_out}
@@ -15,11 +15,11 @@ OneBlockIsTooFew = (input : Bytes) (output : ℕ) → 219 ≤ output → challen
 -- a larger legal limit changes no answer but 8
 unfoldable pub LimitSettlesBlocks : Type 0
 LimitSettlesBlocks =
-    (c : Chosen) (input : Bytes) (limit larger output : ℕ) → limit_out limit ≡ false → limit ≤ larger → larger ≤ 64
+    (c : Option Set) (input : Bytes) (limit larger output : ℕ) → limit_out limit ≡ false → limit ≤ larger → larger ≤ 64
     → (challenged c input limit output ≡ refused Blocks) ⊎ (challenged c input larger output ≡ challenged c input limit output)
 
 -- where a limit gives values, every larger legal limit gives the same
 unfoldable pub LargerLimitGivesSame : Type 0
 LargerLimitGivesSame =
-    (c : Chosen) (input : Bytes) (limit larger output : ℕ) (vs : Bytes) → challenged c input limit output ≡ gives vs → limit ≤ larger → larger ≤ 64
+    (c : Option Set) (input : Bytes) (limit larger output : ℕ) (vs : Bytes) → challenged c input limit output ≡ gives vs → limit ≤ larger → larger ≤ 64
     → challenged c input larger output ≡ gives vs

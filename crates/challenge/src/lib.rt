@@ -4,6 +4,7 @@
 ghost use Rattle.std.specs.Prelude.{◌≡◌, ◌∷◌, ◌*◌, ◌≤◌, ◌<◌, length, take};
 ghost use Rattle.slices.specs.Slices.{Bytes};
 ghost use Rattle.sets.specs.Sets.{IsSet};
+ghost use Rattle.answers.specs.Answers.{back};
 ghost use Rattle.shake.specs.Sponge.{started, absorbed, Taking};
 ghost use Rattle.hashing.specs.Hashing.{h};
 ghost use Rattle.challenge.specs.Pairs.{pair};
@@ -11,18 +12,11 @@ ghost use Rattle.challenge.specs.Filling.{Fills};
 ghost use Rattle.challenge.specs.ChallengeCall.{ChallengePromise};
 
 use answers::Refusal;
-use sets::{Chosen, Set};
+use sets::Set;
 use shake::Sponge;
 
 // The pair 11, which gives no value; each other pair is its value.
 const PAIR_11: u8 = 3;
-
-// Whether place T is filled.
-#[derive(Clone, Copy)]
-pub enum Filled {
-    Full,
-    Short,
-}
 
 // The pair of bits at place j of s.
 fn pair(s: &[u8], j: usize) -> u8
@@ -53,9 +47,9 @@ pub fn block(p: Set, input: &[u8]) -> [u8; 64]
     first_block(p, s)
 }
 
-// The first T values of at most limit blocks at the start of out, one a byte, and whether they fill place T.
+// The first T values of at most limit blocks at the start of out, one a byte; refused if they do not fill place T.
 // The first block stands in the first bytes of first.
-pub fn fill(p: Set, first: [u8; 64], limit: u64, out: &mut [u8]) -> Filled
+pub fn fill(p: Set, first: [u8; 64], limit: u64, out: &mut [u8]) -> Result<(), Refusal>
     requires { IsSet p × (p.t ≤ length out.old) }
     ensures { Fills p (take p.digest first) limit out.old result out.new }
 {
@@ -77,31 +71,27 @@ pub fn fill(p: Set, first: [u8; 64], limit: u64, out: &mut [u8]) -> Filled
         }
         b = block(p, &b[..digest]);
     }
-    if got < t { Filled::Short } else { Filled::Full }
+    if got < t {
+        Err(Refusal::Blocks)
+    } else {
+        Ok(())
+    }
 }
 
 // The challenge call. Refusal 8 keeps the output, so the values go into an array first.
-pub fn challenge(set: u64, input: &[u8], limit: u64, output: &mut [u8]) -> u64
-    ensures { ChallengePromise set input.now limit output.old result output.new }
+pub fn challenge(set: u64, input: &[u8], limit: u64, output: &mut [u8]) -> Result<u32, Refusal>
+    ensures { ChallengePromise set input.now limit output.old (back result) output.new }
 {
-    let chosen = Set::numbered(set);
-    let Chosen::Known(p) = chosen else {
-        return Refusal::NoSet.answer(0);
-    };
+    let p = Set::numbered(set).ok_or(Refusal::NoSet)?;
     if answers::limit_out(limit) {
-        return Refusal::Limit.answer(0);
+        return Err(Refusal::Limit);
     }
     let t = p.t;
     if output.len() < t {
-        return Refusal::Room.answer(0);
+        return Err(Refusal::Room);
     }
     let mut values = [0u8; 438];
-    let filled = fill(p, block(p, input), limit, &mut values);
-    match filled {
-        Filled::Short => Refusal::Blocks.answer(0),
-        Filled::Full => {
-            slices::copy(&values[..t], output);
-            Refusal::Fine.answer(t as u32)
-        }
-    }
+    fill(p, block(p, input), limit, &mut values)?;
+    slices::copy(&values[..t], output);
+    Ok(t as u32)
 }

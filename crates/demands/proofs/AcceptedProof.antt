@@ -2,20 +2,17 @@
 use mathlib.Core.Path.{◌≡◌, ap, ◌∙◌}
 use mathlib.Core.List.{List, ◌++◌}
 use Prim.Native.Nat.{ℕ}
-use lib.Dec.{T}
 use lib.ListN.{length}
 use borrow.Author.Tests.{le-ltb}
+use Rattle.std.proofs.Common.{Some}
 use Rattle.slices.specs.Slices.{Bytes}
 use Rattle.slices.proofs.EqualLaws.{equal_self}
 use Rattle.sets.specs.declared.Set.{Set}
-use Rattle.sets.specs.declared.Chosen.TheVariants.{Known}
 use Rattle.sets.specs.Sets.{numbered}
 use Rattle.sets.specs.Lengths.{room_length}
 use Rattle.sets.proofs.Each.{known_set}
-use Rattle.answers.specs.declared.Refusal.{Refusal}
-use Rattle.answers.specs.declared.Refusal.TheVariants.{Fine}
-use Rattle.answers.specs.Answers.{Check, first, answer}
-use Rattle.answers.proofs.AnswersLaws.{refusing, first-append}
+use Rattle.answers.specs.Answers.{Checked, Fine, Check, first, answer}
+use Rattle.answers.proofs.AnswersLaws.{group_skip}
 use Rattle.hashing.specs.Hashing.{h}
 use Rattle.challenge.specs.Blocks.{first_values}
 use Rattle.challenge.proofs.BlocksLaws.{length-first, enough_after, first_after, first_small}
@@ -30,10 +27,10 @@ use Rattle.demands.proofs.SigningLaws.{Passed, passed, made, answered-bytes, len
 use Rattle.demands.proofs.HonestRunsProof.{reread}
 
 -- groups of checks that pass one after the other
-both_pass : (xs ys : List Check) → T (refusing xs) → first xs ≡ Fine → first ys ≡ Fine → first (xs ++ ys) ≡ Fine
-both_pass xs ys t e d = first-append xs ys t ∙ rw (e, d)
+both_pass : (xs ys : List Check) → first xs ≡ Fine → first ys ≡ Fine → first (xs ++ ys) ≡ Fine
+both_pass xs ys e d = group_skip xs ys e ∙ d
 
-module _ (p : Set) (g : sign.Given) (known : numbered g.set_number ≡ Known p) (s : Passed p g)
+module _ (p : Set) (g : sign.Given) (known : numbered g.set_number ≡ Some p) (s : Passed p g)
     (limit : ℕ) (room : Bytes) (n : Enough g limit room) where
   abbrev es : Bytes
   es = first_values p (sign.first_block p g) g.limit
@@ -76,7 +73,7 @@ module _ (p : Set) (g : sign.Given) (known : numbered g.set_number ≡ Known p) 
 
   pub all_pass : first (verify.checks p (again g limit room signature)) ≡ Fine
   unfolding verify.checks verify.length_checks read_checks
-  all_pass = both_pass _ _ tt lengths_pass (both_pass _ _ tt again-read.read (rw block_again verdict_passes))
+  all_pass = both_pass _ _ lengths_pass (both_pass _ _ again-read.read (rw block_again verdict_passes))
 
 pub signed_is_accepted : SignedIsAccepted
 unfolding SignedIsAccepted verify.refusal_for sign.signature_of
@@ -89,4 +86,4 @@ pub verifying_answers_zero : VerifyingAnswersZero
 unfolding VerifyingAnswersZero SignedIsAccepted
 verifying_answers_zero g number room output s l limit other n a left v =
     v.answered
-    ∙ ap (λ (r : Refusal). answer r 0) (signed_is_accepted g number room output s (length_alone g number room output s l) limit other n)
+    ∙ ap (λ (c : Checked). answer c 0) (signed_is_accepted g number room output s (length_alone g number room output s l) limit other n)

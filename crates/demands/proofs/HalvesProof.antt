@@ -1,5 +1,4 @@
 -- The two halves of every answer, each call's output being shorter than 2^32.
-use mathlib.Core.Path.{refl, sym}
 use Prim.Native.Nat.{ℕ, ◌≤◌}
 use native.Mathlib.Omega.{arith}
 use lib.ListN.{length}
@@ -10,7 +9,6 @@ use Rattle.sets.specs.declared.Set.{Set}
 use Rattle.sets.specs.Sets.{IsSet, numbered}
 use Rattle.sets.specs.Lengths.{w, seeds_length}
 use Rattle.sets.proofs.Each.{most}
-use Rattle.answers.specs.declared.Refusal.TheVariants.{Fine}
 use Rattle.answers.specs.Conditions.{hash_most}
 use Rattle.answers.proofs.AnswersLaws.{none-holds}
 use Rattle.hashing.specs.Hashing.{h, kdf}
@@ -52,7 +50,7 @@ module _ (k : ℕ) where
   unfolding hashed hash_checks
   hash-small input n =
       set_small k _ λ p q. unless-small (hash_checks n) (kdf p input n) λ f.
-      omega (arith, ltb-false hash_most n (none-holds (hash_checks n) tt f).0, length-kdf q input n)
+      omega (arith, ltb-false hash_most n (none-holds (hash_checks n) f).0, length-kdf q input n)
 
   -- seeds
   seeds-small : (secret public message : Bytes) (n : ℕ) → Small (seeded (numbered k) secret public message n)
@@ -71,7 +69,7 @@ module _ (k : ℕ) where
     unfolding public_key_outcome
     public_key_small =
         set_small k _ λ p q. unless-small _ _ λ f.
-        let h = (lowmc.passed p _ _ _ _ (length block) _ n Fine (sym f) refl).block_length in
+        let h = (lowmc.passed p _ _ _ _ (length block) _ n f).block_length in
         omega (arith, lowmc.length-public p keys layers constants secret block h, width≤ q)
 
   -- T values
@@ -79,7 +77,7 @@ module _ (k : ℕ) where
   unfolding challenged challenge_checks
   challenge-small input limit n =
       set_small k _ λ p q. unless-small (challenge_checks p input limit n) _ λ f.
-      omega (arith, length-first p (h p 1 input) limit (none-holds (challenge_checks p input limit n) tt f).1.1.0, t≤ q)
+      omega (arith, length-first p (h p 1 input) limit (none-holds (challenge_checks p input limit n) f).1.1.0, t≤ q)
 
   -- an unpacked form
   read_small : (s : Bytes) (n : ℕ) → Small (read (numbered k) s n)

@@ -5,16 +5,14 @@ use mathlib.Core.List.{List}
 use Prim.Native.Nat.{ℕ, ◌^◌, ◌<◌}
 use native.Mathlib.Omega.{arith}
 use lib.ListN.{length}
+use Rattle.std.proofs.Common.{Option, Some, None, Ok, Err}
 use Rattle.slices.specs.Slices.{Bytes}
 use Rattle.sets.specs.declared.Set.{Set}
-use Rattle.sets.specs.declared.Chosen.{Chosen}
-use Rattle.sets.specs.declared.Chosen.TheVariants.{Known, Unknown}
 use Rattle.sets.specs.Sets.{IsSet, numbered}
 use Rattle.sets.proofs.Each.{known_set}
-use Rattle.answers.specs.declared.Refusal.TheVariants.{Fine}
-use Rattle.answers.specs.Answers.{fine, Check, first}
-use Rattle.answers.specs.Outcome.{Outcome, refused, gives, unless, behind, with_set, answer_of, written_by, Promise}
-use Rattle.answers.proofs.AnswersLaws.{fine_is, halves_of}
+use Rattle.answers.specs.Answers.{Checked, Fine, Check, first}
+use Rattle.answers.specs.Outcome.{Outcome, refused, gives, after, unless, behind, with_set, answer_of, written_by, Promise}
+use Rattle.answers.proofs.AnswersLaws.{halves_of}
 use Rattle.demands.specs.Halves.{HalvesOf}
 
 -- an outcome with fewer than 2^32 bytes
@@ -24,17 +22,17 @@ Small o = length (written_by o) < 2 ^ 32
 -- its answer has its halves
 pub outcome_halves : (o : Outcome) (before : Bytes) (back : ℕ) (after : Bytes) → Promise o before back after → Small o → HalvesOf o back
 unfolding answer_of
-outcome_halves (refused r) before back after k l = rw k.answered (halves_of r 0 l)
+outcome_halves (refused r) before back after k l = rw k.answered (halves_of (Err r) 0 l)
 outcome_halves (gives vs) before back after k l = rw k.answered (halves_of Fine (length vs) l)
+
+after-small : (c : Checked) (vs : Bytes) → (c ≡ Fine → length vs < 2 ^ 32) → Small (after c vs)
+after-small (Ok done) vs h = h refl
+after-small (Err r) vs h = omega arith
 
 -- bytes that are given where all checks pass
 pub unless-small : (ks : List Check) (vs : Bytes) → (first ks ≡ Fine → length vs < 2 ^ 32) → Small (unless ks vs)
 unfolding unless
-unless-small ks vs h = go (fine (first ks)) refl
-  where
-    go : (b : Bool) → fine (first ks) ≡ b → Small (cond b (gives vs) (refused (first ks)))
-    go true f = h (fine_is (first ks) f)
-    go false f = omega arith
+unless-small ks vs h = after-small (first ks) vs h
 
 -- a check in front
 pub behind-small : (k : Check) (o : Outcome) → Small o → Small (behind k o)
@@ -50,6 +48,6 @@ pub set_small : (k : ℕ) (f : Set → Outcome) → ((p : Set) → IsSet p → S
 unfolding with_set
 set_small k f h = go (numbered k) refl
   where
-    go : (c : Chosen) → numbered k ≡ c → Small (with_set c f)
-    go Unknown e = omega arith
-    go (Known p) e = h p (known_set k p e)
+    go : (c : Option Set) → numbered k ≡ c → Small (with_set c f)
+    go None e = omega arith
+    go (Some p) e = h p (known_set k p e)

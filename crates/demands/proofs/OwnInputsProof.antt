@@ -5,16 +5,14 @@ use Prim.Native.Nat.{ℕ, ◌^◌, ◌≤◌, ◌<◌}
 use native.Mathlib.Omega.{arith}
 use lib.ListN.{length, take}
 use borrow.Author.Tests.{eq-eqb, le-ltb}
+use Rattle.std.proofs.Common.{Option, Some, None}
 use Rattle.slices.specs.Slices.{Bytes}
 use Rattle.slices.proofs.EqualLaws.{equal_self}
 use Rattle.sets.specs.declared.Set.{Set}
-use Rattle.sets.specs.declared.Chosen.{Chosen}
-use Rattle.sets.specs.declared.Chosen.TheVariants.{Known, Unknown}
 use Rattle.sets.specs.Sets.{numbered}
 use Rattle.sets.specs.Lengths.{public_length, seeds_length, room_length, longest}
 use Rattle.sets.proofs.Each.{known_set}
-use Rattle.answers.specs.declared.Refusal.TheVariants.{Fine}
-use Rattle.answers.specs.Answers.{number, Check}
+use Rattle.answers.specs.Answers.{code, Check}
 use Rattle.answers.specs.Outcome.{unless, with_set, Promise}
 use Rattle.answers.proofs.OutcomeLaws.{set_known, unless-given}
 use Rattle.hashing.specs.Hashing.{derived_seeds}
@@ -32,10 +30,10 @@ use Rattle.demands.proofs.SignHalves.{sign_halves}
 -- where a call answers a length alone, as many bytes as it answered are those of the set
 module _ (k : ℕ) (ks : Set → List Check) (vs : Set → Bytes) (before : Bytes) (back : ℕ) (after : Bytes)
     (s : Promise (with_set (numbered k) (λ q. unless (ks q) (vs q))) before back after) (l : back < 2 ^ 32) where
-  set_gave : (p : Set) → numbered k ≡ Known p → take back after ≡ vs p
+  set_gave : (p : Set) → numbered k ≡ Some p → take back after ≡ vs p
   set_gave p e =
       let t : Promise (unless (ks p) (vs p)) before back after = rw (set_known (numbered k) (λ q. unless (ks q) (vs q)) p e) at s in
-      gave_bytes _ (vs p) before back after (unless-given (ks p) (vs p) Fine (unless_alone (ks p) (vs p) before back after t l) refl) t
+      gave_bytes _ (vs p) before back after (unless-given (ks p) (vs p) (unless_alone (ks p) (vs p) before back after t l)) t
 
 -- ---- a public key
 
@@ -49,13 +47,13 @@ written_key_has_halves k keys layers constants secret block before back after s 
     (halves_of_public_key p keys layers constants secret block)
 
 -- where C is LowMC of p, no answer is 7
-pair-taken : (c : Chosen) (g : sign.Given)
-    → ((p : Set) → c ≡ Known p
+pair-taken : (c : Option Set) (g : sign.Given)
+    → ((p : Set) → c ≡ Some p
     → encrypted p g.keys g.layers g.constants g.secret (plaintext p g.public) ≡ ciphertext p g.public)
-    → ¬ (number (sign.refusal_for c g) ≡ 7)
+    → ¬ (code (sign.refusal_for c g) ≡ 7)
 unfolding sign.refusal_for sign.checks sign.length_checks raised
-pair-taken Unknown g h = λ a. omega arith
-pair-taken (Known p) g h = not_raised 6 (sign.checks p g) (rw (h p refl, equal_self (ciphertext p g.public)))
+pair-taken None g h = λ a. omega arith
+pair-taken (Some p) g h = not_raised 6 (sign.checks p g) (rw (h p refl, equal_self (ciphertext p g.public)))
 
 pub written_key_is_never_refused : WrittenKeyIsNeverRefused
 unfolding WrittenKeyIsNeverRefused WrittenKeyHasHalves
@@ -69,20 +67,20 @@ written_key_is_never_refused g block before back after s l e answer room output 
 -- ---- seeds
 
 -- where seeds, room and output have their lengths, no answer is 6
-room-taken : (c : Chosen) (g : sign.Given)
-    → ((p : Set) → c ≡ Known p
+room-taken : (c : Option Set) (g : sign.Given)
+    → ((p : Set) → c ≡ Some p
     → (length g.seeds ≡ seeds_length p) × (room_length p ≤ length g.room) × (longest p ≤ length g.output))
-    → ¬ (number (sign.refusal_for c g) ≡ 6)
+    → ¬ (code (sign.refusal_for c g) ≡ 6)
 unfolding sign.refusal_for sign.checks sign.length_checks raised
-room-taken Unknown g h = λ a. omega arith
-room-taken (Known p) g h =
+room-taken None g h = λ a. omega arith
+room-taken (Some p) g h =
     let (s, r, o) = h p refl in
     not_raised 5 (sign.checks p g) (rw (eq-eqb _ _ s, le-ltb (length g.room) (room_length p) r, le-ltb (length g.output) (longest p) o))
 
 -- written seeds have their length
 written-seeds : (k : ℕ) (secret public message before : Bytes) (back : ℕ) (after : Bytes)
     → SeedsPromise k secret public message before back after → back < 2 ^ 32
-    → (p : Set) → numbered k ≡ Known p → length (take back after) ≡ seeds_length p
+    → (p : Set) → numbered k ≡ Some p → length (take back after) ≡ seeds_length p
 unfolding seeded
 written-seeds k secret public message before back after s l p e =
     rw

@@ -6,18 +6,17 @@ use Prim.Native.Nat.{ℕ, ◌^◌, ◌≤◌, ◌<◌}
 use native.Mathlib.Omega.{arith}
 use lib.ListN.{length, take, drop}
 use lib.Seq.{take_at}
-use borrow.Author.Tests.{le-ltb, eqb-false}
+use borrow.Author.Tests.{le-ltb}
+use Rattle.std.proofs.Common.{Option, Some, None, Ok, Err}
 use Rattle.slices.specs.Slices.{Bytes, over}
 use Rattle.sets.specs.declared.Set.{Set}
-use Rattle.sets.specs.declared.Chosen.{Chosen}
-use Rattle.sets.specs.declared.Chosen.TheVariants.{Known, Unknown}
 use Rattle.sets.specs.Sets.{numbered}
 use Rattle.sets.specs.Lengths.{longest, unpacked_length}
 use Rattle.answers.specs.declared.Refusal.{Refusal}
-use Rattle.answers.specs.declared.Refusal.TheVariants.{Fine, Room}
-use Rattle.answers.specs.Answers.{number, fine, Check, when, first, answer}
-use Rattle.answers.specs.Outcome.{Outcome, refused, gives, unless, behind, with_set, answer_of, left_by, Promise}
-use Rattle.answers.proofs.AnswersLaws.{fine_is}
+use Rattle.answers.specs.declared.Refusal.TheVariants.{Room}
+use Rattle.answers.specs.Answers.{Checked, Fine, Check, when, first, answer}
+use Rattle.answers.specs.Outcome.{Outcome, refused, gives, after, unless, behind, with_set, answer_of, left_by, Promise}
+use Rattle.answers.proofs.AnswersLaws.{number-least}
 use Rattle.answers.proofs.OutcomeLaws.{set_known, unless-given, behind_passes}
 use Rattle.shape.specs.Form.{form, signature}
 use Rattle.shape.specs.Reading.{reading, writing, read_into, write_into, read, write}
@@ -39,37 +38,38 @@ module _ (o : Outcome) (vs before : Bytes) (n : ℕ) (after : Bytes) (g : o ≡ 
   unfolding over
   gave_bytes = let (a, b) = promise_gave in rw b (take_at vs (drop (length vs) before) n (sym a))
 
+after_alone : (c : Checked) (vs : Bytes) (n : ℕ) → n ≡ answer_of (after c vs) → n < 2 ^ 32 → c ≡ Fine
+unfolding answer_of
+after_alone (Ok done) vs n a l = refl
+after_alone (Err r) vs n a l = absurd (omega (arith, number-least r))
+
 -- where a length alone is answered, the checks pass
 pub unless_alone : (ks : List Check) (vs before : Bytes) (n : ℕ) (after : Bytes) → Promise (unless ks vs) before n after → n < 2 ^ 32 → first ks ≡ Fine
 unfolding unless answer_of
-unless_alone ks vs before n after k l = go (fine (first ks)) refl k.answered
-  where
-    go : (b : Bool) → fine (first ks) ≡ b → n ≡ answer_of (cond b (gives vs) (refused (first ks))) → first ks ≡ Fine
-    go true f a = fine_is (first ks) f
-    go false f a = absurd (eqb-false (number (first ks)) 0 f (omega arith))
+unless_alone ks vs before n after k l = after_alone (first ks) vs n k.answered l
 
 -- and a check in front passes
-behind_alone : (b : Bool) (r : Refusal) (o : Outcome) (before : Bytes) (n : ℕ) (after : Bytes) → fine r ≡ false
+behind_alone : (b : Bool) (r : Refusal) (o : Outcome) (before : Bytes) (n : ℕ) (after : Bytes)
     → Promise (behind (when b r) o) before n after → n < 2 ^ 32 → Promise o before n after
 unfolding behind answer_of
-behind_alone true r o before n after f k l = absurd (eqb-false (number r) 0 f (omega (arith, k.answered)))
-behind_alone false r o before n after f k l = k
+behind_alone true r o before n after k l = absurd (omega (arith, k.answered, number-least r))
+behind_alone false r o before n after k l = k
 
 -- and there is a set
-pub record Chose (c : Chosen) (f : Set → Outcome) (before : Bytes) (n : ℕ) (after : Bytes) : Type 0 where
+pub record Chose (c : Option Set) (f : Set → Outcome) (before : Bytes) (n : ℕ) (after : Bytes) : Type 0 where
   pub p : Set
-  pub known : c ≡ Known p
+  pub known : c ≡ Some p
   pub promise : Promise (f p) before n after
 
-chose : (c : Chosen) (f : Set → Outcome) (before : Bytes) (n : ℕ) (after : Bytes) → Promise (with_set c f) before n after → n < 2 ^ 32
+chose : (c : Option Set) (f : Set → Outcome) (before : Bytes) (n : ℕ) (after : Bytes) → Promise (with_set c f) before n after → n < 2 ^ 32
     → Chose c f before n after
 unfolding with_set answer_of
-chose Unknown f before n after k l = absurd (omega (arith, k.answered))
-chose (Known p) f before n after k l = record { p = p; known = refl; promise = k }
+chose None f before n after k l = absurd (omega (arith, k.answered))
+chose (Some p) f before n after k l = record { p = p; known = refl; promise = k }
 
 -- ---- the two calls
 
-module _ (c : Chosen) (p : Set) (known : c ≡ Known p) (s : Bytes) (n : ℕ) where
+module _ (c : Option Set) (p : Set) (known : c ≡ Some p) (s : Bytes) (n : ℕ) where
   read-given : (x : Bytes) → unpacked_length p ≤ n → reading p s ≡ gives x → read c s n ≡ gives x
   unfolding read read_into
   read-given x l e = set_known c _ p known ∙ (behind_passes _ Room (reading p s) (le-ltb n (unpacked_length p) l) ∙ e)
@@ -83,15 +83,15 @@ module _ (p : Set) (s before : Bytes) (n : ℕ) (after : Bytes) (l : n < 2 ^ 32)
   read_left : Promise (read_into p s (length before)) before n after → (reading p s ≡ gives (form p s)) × (take n after ≡ form p s)
   unfolding read_into reading
   read_left k =
-      let h = behind_alone _ Room (reading p s) before n after refl k l in
-      let e = unless-given _ _ _ (unless_alone _ _ before n after h l) refl in
+      let h = behind_alone _ Room (reading p s) before n after k l in
+      let e = unless-given _ _ (unless_alone _ _ before n after h l) in
       (e, gave_bytes _ (form p s) before n after e h)
 
   write-left : Promise (write_into p s (length before)) before n after → (writing p s ≡ gives (signature p s)) × (take n after ≡ signature p s)
   unfolding write_into writing
   write-left k =
-      let h = behind_alone _ Room (writing p s) before n after refl k l in
-      let e = unless-given _ _ _ (unless_alone _ _ before n after h l) refl in
+      let h = behind_alone _ Room (writing p s) before n after k l in
+      let e = unless-given _ _ (unless_alone _ _ before n after h l) in
       (e, gave_bytes _ (signature p s) before n after e h)
 
 pub read_then_written : ReadThenWritten

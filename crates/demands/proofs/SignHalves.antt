@@ -5,14 +5,13 @@ use mathlib.Core.List.{[]}
 use Prim.Native.Nat.{ℕ, ◌^◌, ◌≤◌, ◌<◌}
 use native.Mathlib.Omega.{arith}
 use lib.ListN.{length}
+use Rattle.std.proofs.Common.{Some}
 use Rattle.slices.specs.Slices.{Bytes}
 use Rattle.sets.specs.declared.Set.{Set}
-use Rattle.sets.specs.declared.Chosen.TheVariants.{Known}
 use Rattle.sets.specs.Sets.{numbered}
 use Rattle.sets.specs.Lengths.{longest}
 use Rattle.sets.proofs.Each.{known_set}
-use Rattle.answers.specs.declared.Refusal.TheVariants.{Fine}
-use Rattle.answers.specs.Answers.{fine, Halves}
+use Rattle.answers.specs.Answers.{Fine, fine, Halves}
 use Rattle.answers.proofs.AnswersLaws.{fine_is, halves_of}
 use Rattle.challenge.specs.Blocks.{first_values}
 use Rattle.challenge.proofs.BlocksLaws.{length-first, first_small}
@@ -28,7 +27,7 @@ use Rattle.demands.proofs.SigningLaws.{made, Passed, passed}
 use Rattle.demands.proofs.HonestRunsProof.{reread}
 
 -- no signature is longer than the longest
-pub signed_most : (p : Set) (g : sign.Given) → numbered g.set_number ≡ Known p → Passed p g → length (sign.signature_of p g) ≤ longest p
+pub signed_most : (p : Set) (g : sign.Given) → numbered g.set_number ≡ Some p → Passed p g → length (sign.signature_of p g) ≤ longest p
 unfolding sign.signature_of
 signed_most p g e s =
     let b = sign.first_block p g in
@@ -45,7 +44,7 @@ signed_is_no_longer g p e = go (fine (sign.refusal g)) refl
   where
     go : (b : Bool) → fine (sign.refusal g) ≡ b → length (cond b (sign.signature_by (numbered g.set_number) g) []) ≤ longest p
     go true f =
-        let none : sign.refusal_for (Known p) g ≡ Fine = rw e at (fine_is (sign.refusal g) f) in
+        let none : sign.refusal_for (Some p) g ≡ Fine = rw e at (fine_is (sign.refusal g) f) in
         rw e (signed_most p g e (passed p g none))
     go false f = omega arith
 

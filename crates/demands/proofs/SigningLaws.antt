@@ -7,18 +7,15 @@ use native.Mathlib.Omega.{arith}
 use lib.ListN.{length, take, drop}
 use lib.Seq.{take_at}
 use borrow.Author.Tests.{not-false}
+use Rattle.std.proofs.Common.{Option, Some, None}
 use Rattle.slices.specs.Slices.{Bytes, over}
 use Rattle.slices.proofs.EqualLaws.{equal-true}
 use Rattle.sets.specs.declared.Set.{Set}
-use Rattle.sets.specs.declared.Chosen.{Chosen}
-use Rattle.sets.specs.declared.Chosen.TheVariants.{Known, Unknown}
 use Rattle.sets.specs.Sets.{numbered}
 use Rattle.sets.specs.Lengths.{w, public_length, seeds_length, room_length, longest}
-use Rattle.answers.specs.declared.Refusal.{Refusal}
-use Rattle.answers.specs.declared.Refusal.TheVariants.{Fine}
-use Rattle.answers.specs.Answers.{number, first, answer}
+use Rattle.answers.specs.Answers.{Checked, Fine, first, answer}
 use Rattle.answers.specs.Conditions.{other, tables_other, keys_other, message_out, limit_out, too_short}
-use Rattle.answers.proofs.AnswersLaws.{fine_is, none-holds}
+use Rattle.answers.proofs.AnswersLaws.{zero_is, none-holds}
 use Rattle.answers.proofs.ConditionsLaws.{neither, same_length}
 use Rattle.lowmc.specs.Encrypted.{encrypted, ciphertext, plaintext}
 use Rattle.challenge.specs.Blocks.{too_few}
@@ -37,7 +34,7 @@ pub record Passed (p : Set) (g : Given) : Type 0 where
 pub passed : (p : Set) (g : Given) → first (checks p g) ≡ Fine → Passed p g
 unfolding checks length_checks keys_other
 passed p g f =
-    let n = none-holds (checks p g) tt f in
+    let n = none-holds (checks p g) f in
     let seeds = other (seeds_length p) (length g.seeds) in
     let room = too_short (room_length p) (length g.room) in
     let output = too_short (longest p) (length g.output) in
@@ -54,13 +51,13 @@ passed p g f =
 -- the set is known, and nothing is refused
 pub record Made (g : Given) : Type 0 where
   pub p : Set
-  pub known : numbered g.set_number ≡ Known p
+  pub known : numbered g.set_number ≡ Some p
   pub none : first (checks p g) ≡ Fine
 
-chosen : (g : Given) (c : Chosen) → numbered g.set_number ≡ c → refusal_for c g ≡ Fine → Made g
+chosen : (g : Given) (c : Option Set) → numbered g.set_number ≡ c → refusal_for c g ≡ Fine → Made g
 unfolding refusal_for
-chosen g Unknown e f = absurd (let z : ◌≡◌ {A = ℕ} 1 0 = ap number f in omega arith)
-chosen g (Known p) e f = record { p = p; known = e; none = f }
+chosen g None e f = cc
+chosen g (Some p) e f = record { p = p; known = e; none = f }
 
 pub made : (g : Given) → refusal g ≡ Fine → Made g
 made g f = chosen g (numbered g.set_number) refl f
@@ -72,13 +69,10 @@ unfolding written signature_by over
 answered-bytes g n room output s f m =
     let signature = signature_of m.p g in
     let e : written g ≡ signature = rw (f, m.known) in
-    let a : n ≡ answer Fine (length (written g)) = s.answered ∙ ap (λ (r : Refusal). answer r (length (written g))) f in
+    let a : n ≡ answer Fine (length (written g)) = s.answered ∙ ap (λ (c : Checked). answer c (length (written g))) f in
     let l : length signature ≡ n = omega (arith, a, ap length e) in
     rw s.left-output (ap (λ (x : Bytes). take n (x ++ drop (length x) g.output)) e ∙ take_at signature _ n l)
 
 -- an answer below 2^32 refuses nothing
 pub length_alone : (g : Given) (n : ℕ) (room output : Bytes) → Signed g n room output → n < 2 ^ 32 → refusal g ≡ Fine
 length_alone g n room output s l = zero_is (refusal g) (omega (arith, s.answered))
-  where
-    zero_is : (r : Refusal) → number r ≡ 0 → r ≡ Fine
-    zero_is r e = fine_is r (rw e)

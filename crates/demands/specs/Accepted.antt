@@ -1,11 +1,10 @@
 -- Demand 3, first half: what signing writes, verifying accepts.
-use Rattle.std.specs.Prelude.{◌≡◌, ℕ, ◌^◌, ◌≤◌, ◌<◌, length, take}
+use Rattle.std.specs.Prelude.{◌≡◌, ℕ, ◌^◌, ◌≤◌, ◌<◌, length, take, Some}
+use Rattle.answers.specs.Answers.{Fine}
 use Rattle.slices.specs.Slices.{Bytes}
 use Rattle.sets.specs.declared.Set.{Set}
-use Rattle.sets.specs.declared.Chosen.TheVariants.{Known}
 use Rattle.sets.specs.Sets.{numbered}
 use Rattle.sets.specs.Lengths.{room_length}
-use Rattle.answers.specs.declared.Refusal.TheVariants.{Fine}
 use Rattle.signer.specs.Sign as sign
 use Rattle.verifier.specs.Verify as verify
 
@@ -28,7 +27,7 @@ again g limit room signature =
 pub record Enough (g : sign.Given) (limit : ℕ) (room : Bytes) : Type 0 where
   pub more : g.limit ≤ limit
   pub legal : limit ≤ 64
-  pub suffices : (set : Set) → numbered g.set_number ≡ Known set → room_length set ≤ length room
+  pub suffices : (set : Set) → numbered g.set_number ≡ Some set → room_length set ≤ length room
 
 -- where signing refuses nothing, verifying refuses nothing: of the output, as many bytes as were answered
 unfoldable pub SignedIsAccepted : Type 0

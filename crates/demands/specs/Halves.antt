@@ -1,9 +1,8 @@
 -- The two halves of every answer: above the refusal's number, below the bytes written, fewer than 2^32. And how many bytes signing
 -- writes at most.
-use Rattle.std.specs.Prelude.{◌≡◌, ℕ, ◌≤◌, length}
+use Rattle.std.specs.Prelude.{◌≡◌, ℕ, ◌≤◌, length, Some}
 use Rattle.slices.specs.Slices.{Bytes}
 use Rattle.sets.specs.declared.Set.{Set}
-use Rattle.sets.specs.declared.Chosen.TheVariants.{Known}
 use Rattle.sets.specs.Sets.{numbered}
 use Rattle.sets.specs.Lengths.{longest}
 use Rattle.answers.specs.Answers.{Halves}
@@ -45,4 +44,4 @@ pub record EveryAnswerHasHalves : Type 0 where
 
 -- what signing writes is no longer than the longest signature of its set
 unfoldable pub SignedIsNoLonger : Type 0
-SignedIsNoLonger = (g : sign.Given) (set : Set) → numbered g.set_number ≡ Known set → length (sign.written g) ≤ longest set
+SignedIsNoLonger = (g : sign.Given) (set : Set) → numbered g.set_number ≡ Some set → length (sign.written g) ≤ longest set

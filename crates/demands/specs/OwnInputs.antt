@@ -1,8 +1,7 @@
 -- Signing with a public key and with seeds that the library itself wrote.
-use Rattle.std.specs.Prelude.{◌≡◌, ℕ, ◌/◌, ◌^◌, ◌≤◌, ◌<◌, length, take}
+use Rattle.std.specs.Prelude.{◌≡◌, ℕ, ◌/◌, ◌^◌, ◌≤◌, ◌<◌, length, take, Some}
 use Rattle.slices.specs.Slices.{Bytes}
 use Rattle.sets.specs.declared.Set.{Set}
-use Rattle.sets.specs.declared.Chosen.TheVariants.{Known}
 use Rattle.sets.specs.Sets.{numbered}
 use Rattle.sets.specs.Lengths.{room_length, longest}
 use Rattle.lowmc.specs.Encrypted.{encrypted, ciphertext, plaintext}
@@ -15,7 +14,7 @@ unfoldable pub WrittenKeyHasHalves : Type 0
 WrittenKeyHasHalves =
     (set_number : ℕ) (keys layers constants secret p before : Bytes) (back : ℕ) (after : Bytes)
     → PublicKeyPromise set_number keys layers constants secret p before back after → back < 2 ^ 32
-    → (set : Set) → numbered set_number ≡ Known set
+    → (set : Set) → numbered set_number ≡ Some set
     → (ciphertext set (take back after) ≡ encrypted set keys layers constants secret p) × (plaintext set (take back after) ≡ p)
 
 -- for that public key, under the same set, tables and secret key, signing never answers 7
@@ -33,5 +32,5 @@ WrittenSeedsAreNeverRefused =
     (g : sign.Given) (secret public message before : Bytes) (back : ℕ) (after : Bytes)
     → SeedsPromise g.set_number secret public message before back after → back < 2 ^ 32
     → g.seeds ≡ take back after
-    → ((set : Set) → numbered g.set_number ≡ Known set → (room_length set ≤ length g.room) × (longest set ≤ length g.output))
+    → ((set : Set) → numbered g.set_number ≡ Some set → (room_length set ≤ length g.room) × (longest set ≤ length g.output))
     → (n : ℕ) (room output : Bytes) → sign.Signed g n room output → ¬ (n / 2 ^ 32 ≡ 6)

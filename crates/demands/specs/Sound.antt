@@ -5,8 +5,7 @@ use Rattle.bits.specs.Bytes.{bits_of, bytes_of, Packed}
 use Rattle.sets.specs.declared.Set.{Set}
 use Rattle.sets.specs.Sets.{IsSet}
 use Rattle.sets.specs.Lengths.{public_length, seed_width, seeds_length, unpacked_length}
-use Rattle.answers.specs.declared.Refusal.TheVariants.{Fine}
-use Rattle.answers.specs.Answers.{first}
+use Rattle.answers.specs.Answers.{Fine, first}
 use Rattle.circuit.specs.Lowmc.{Cipher}
 use Rattle.circuit.specs.Round.{Party, party0}
 use Rattle.circuit.specs.RoundTheorems.{xor3}

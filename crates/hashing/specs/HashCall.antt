@@ -1,7 +1,7 @@
 -- The call that hashes: it takes a set number for its SHAKE, adds no prefix and fills its whole output.
-use Rattle.std.specs.Prelude.{List, [], ◌∷◌, ℕ, ltb, length}
+use Rattle.std.specs.Prelude.{List, [], ◌∷◌, ℕ, ltb, length, Option}
+use Rattle.sets.specs.declared.Set.{Set}
 use Rattle.slices.specs.Slices.{Bytes}
-use Rattle.sets.specs.declared.Chosen.{Chosen}
 use Rattle.sets.specs.Sets.{numbered}
 use Rattle.answers.specs.declared.Refusal.TheVariants.{Room}
 use Rattle.answers.specs.Answers.{Check, when}
@@ -14,7 +14,7 @@ unfoldable pub hash_checks : ℕ → List Check
 hash_checks n = when (ltb hash_most n) Room ∷ []
 
 -- hashing refuses with 1 or 6 alone
-unfoldable pub hashed : Chosen → Bytes → ℕ → Outcome
+unfoldable pub hashed : Option Set → Bytes → ℕ → Outcome
 hashed c input n = with_set c (λ set. unless (hash_checks n) (kdf set input n))
 
 -- what picnic_hash promises: its answer, and its output from what it held before

@@ -1,8 +1,7 @@
 -- The call that derives seeds from a secret key, a message and a public key.
-use Rattle.std.specs.Prelude.{List, [], ◌∷◌, ℕ, length}
+use Rattle.std.specs.Prelude.{List, [], ◌∷◌, ℕ, length, Option}
 use Rattle.slices.specs.Slices.{Bytes}
 use Rattle.sets.specs.declared.Set.{Set}
-use Rattle.sets.specs.declared.Chosen.{Chosen}
 use Rattle.sets.specs.Sets.{numbered}
 use Rattle.sets.specs.Lengths.{seeds_length}
 use Rattle.answers.specs.declared.Refusal.TheVariants.{Key, Message, Room}
@@ -20,7 +19,7 @@ seeds_checks set secret public message output =
     ∷ []
 
 -- an output must hold the seeds length
-unfoldable pub seeded : Chosen → (secret public message : Bytes) → ℕ → Outcome
+unfoldable pub seeded : Option Set → (secret public message : Bytes) → ℕ → Outcome
 seeded c secret public message n =
     with_set c (λ set. unless (seeds_checks set (length secret) (length public) (length message) n) (derived_seeds set secret message public))
 

@@ -4,14 +4,14 @@
 ghost use Rattle.std.specs.Prelude.{◌≡◌, [], ◌∷◌, ◌++◌, ◌<◌, length};
 ghost use Rattle.sets.specs.Sets.{IsSet};
 ghost use Rattle.sets.specs.Lengths.{seeds_length};
-ghost use Rattle.answers.specs.Answers.{first};
+ghost use Rattle.answers.specs.Answers.{first, back};
 ghost use Rattle.shake.specs.Sponge.{started, absorbed, Taking};
 ghost use Rattle.hashing.specs.Hashing.{h, kdf, derived_seeds, tape_input, tape, commitment};
 ghost use Rattle.hashing.specs.HashCall.{HashPromise};
 ghost use Rattle.hashing.specs.SeedsCall.{seeds_checks, SeedsPromise};
 
 use answers::Refusal;
-use sets::{Chosen, Set};
+use sets::Set;
 use shake::Sponge;
 
 // The sponge of H_i: the byte i is taken in.
@@ -110,51 +110,54 @@ fn derive(p: Set, secret: &[u8], message: &[u8], public: &[u8], output: &mut [u8
 }
 
 // The hashing call.
-pub fn hash(set: u64, input: &[u8], output: &mut [u8]) -> u64
-    ensures { HashPromise set input.now output.old result output.new }
+pub fn hash(set: u64, input: &[u8], output: &mut [u8]) -> Result<u32, Refusal>
+    ensures { HashPromise set input.now output.old (back result) output.new }
 {
-    let chosen = Set::numbered(set);
-    let Chosen::Known(p) = chosen else {
-        return Refusal::NoSet.answer(0);
-    };
+    let p = Set::numbered(set).ok_or(Refusal::NoSet)?;
     let n = output.len();
     if answers::HASH_MOST < n {
-        return Refusal::Room.answer(0);
+        return Err(Refusal::Room);
     }
     fill(p, input, output);
-    Refusal::Fine.answer(n as u32)
+    Ok(n as u32)
 }
 
 // What the call that derives seeds refuses, by the lengths of its slices.
-fn seeds_refusal(p: Set, secret: usize, public: usize, message: usize, output: usize) -> Refusal
+fn check_seeds(
+    p: Set,
+    secret: usize,
+    public: usize,
+    message: usize,
+    output: usize,
+) -> Result<(), Refusal>
     requires { IsSet p }
     ensures { result ≡ first (seeds_checks p secret public message output) }
 {
     if answers::keys_other(p, secret, public) {
-        return Refusal::Key;
+        return Err(Refusal::Key);
     }
     if answers::message_out(message) {
-        return Refusal::Message;
+        return Err(Refusal::Message);
     }
     if output < p.seeds_length() {
-        return Refusal::Room;
+        return Err(Refusal::Room);
     }
-    Refusal::Fine
+    Ok(())
 }
 
 // The call that derives seeds.
-pub fn seeds(set: u64, secret: &[u8], public: &[u8], message: &[u8], output: &mut [u8]) -> u64
-    ensures { SeedsPromise set secret.now public.now message.now output.old result output.new }
+pub fn seeds(
+    set: u64,
+    secret: &[u8],
+    public: &[u8],
+    message: &[u8],
+    output: &mut [u8],
+) -> Result<u32, Refusal>
+    ensures { SeedsPromise set secret.now public.now message.now output.old (back result) output.new }
 {
-    let chosen = Set::numbered(set);
-    let Chosen::Known(p) = chosen else {
-        return Refusal::NoSet.answer(0);
-    };
-    let refusal = seeds_refusal(p, secret.len(), public.len(), message.len(), output.len());
-    if !refusal.fine() {
-        return refusal.answer(0);
-    }
+    let p = Set::numbered(set).ok_or(Refusal::NoSet)?;
+    check_seeds(p, secret.len(), public.len(), message.len(), output.len())?;
     let n = p.seeds_length();
     derive(p, secret, message, public, &mut output[..n]);
-    Refusal::Fine.answer(n as u32)
+    Ok(n as u32)
 }

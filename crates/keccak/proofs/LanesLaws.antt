@@ -1,9 +1,15 @@
 -- Laws of the permutation on lanes: how long the steps' results are, and one round after the first n.
-use mathlib.Core.Path.{◌≡◌, refl, ◌∙◌}
-use Prim.Native.Nat.{ℕ, zero, suc, ◌+◌}
+use mathlib.Core.Path.{◌≡◌, refl, sym, ap, ◌∙◌}
+use mathlib.Core.List.{List, map}
+use Prim.Native.Nat.{ℕ, zero, suc, ◌+◌, ◌<◌}
 use native.Mathlib.Numerals.{add-one}
+use native.Mathlib.Omega.{arith}
 use lib.Bits.{bit_xor}
 use lib.ListN.{length, get_or, set, length-set}
+use Rattle.std.specs.List.{range_with_len}
+use Rattle.std.proofs.lemmas.List.FromFn.{get_or-map-range_with_len}
+use Rattle.bits.specs.Bits.{◌⊻◌}
+use Rattle.keccak.specs.declared.TheConstants.{CONSTANTS}
 use Rattle.keccak.specs.Lanes.{Lanes, theta, rho, pi, chi, iota, round, rounds, round_constant, permuted}
 
 pub length-theta : (a : Lanes) → length (theta a) ≡ 25
@@ -44,8 +50,15 @@ pub rounds-none : (a : Lanes) → a ≡ rounds 0 a
 unfolding rounds
 rounds-none a = refl
 
+-- the code's table has the number that the register gives for each round, which is computed
+constants : map round_constant (range_with_len 0 24) ≡ CONSTANTS
+unfolding round_constant ◌⊻◌
+constants = refl
+
 -- one round more, as the code does it
-pub rounds-more : (a b c d e : Lanes) (i k : ℕ) → b ≡ rounds i a → c ≡ theta b → d ≡ pi (rho c) → e ≡ chi d → k ≡ round_constant i
-    → set e 0 (bit_xor (get_or e 0 0) k) ≡ rounds (i + 1) a
+pub rounds-more : (a b c d e : Lanes) (i : ℕ) → i < 24 → b ≡ rounds i a → c ≡ theta b → d ≡ pi (rho c) → e ≡ chi d
+    → set e 0 (bit_xor (get_or e 0 0) (get_or CONSTANTS i 0)) ≡ rounds (i + 1) a
 unfolding rounds round iota
-rounds-more a b c d e i k pb pc pd pe pk = rw add-one (cc)
+rounds-more a b c d e i h pb pc pd pe =
+    let p = ap (λ (l : List ℕ). get_or l i 0) (sym constants) ∙ get_or-map-range_with_len round_constant 0 24 i i 0 h (omega arith) in
+    rw (p, add-one) (cc)

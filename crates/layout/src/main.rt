@@ -19,40 +19,25 @@ const ROOM: usize = 65536;
 fn count(values: &[u8], v: u8) -> usize
     ensures { result ≡ how_many v values.now }
 {
-    let mut n = 0;
-    for value in values {
-        if *value == v {
-            n += 1;
-        }
-    }
-    n
-}
-
-// A number, and what follows it.
-fn field(rt: &impl Print, n: usize, end: char) -> io::Result<()> {
-    print!(rt; "{n}{end}")
+    values.iter().filter(|value| **value == v).count()
 }
 
 // The layout of a signature of so many bytes with these values.
 fn print_layout(rt: &impl Print, length: usize, values: &[u8]) -> io::Result<()> {
-    print!(rt; "signature\t1\t")?;
-    field(rt, length, '\n')?;
-    print!(rt; "challenge\t")?;
-    field(rt, count(values, 0), '\t')?;
-    field(rt, count(values, 1), '\t')?;
-    field(rt, count(values, 2), '\n')
+    println!(rt; "signature\t1\t{length}")?;
+    let [zeros, ones, twos] = [0, 1, 2].map(|v| count(values, v));
+    println!(rt; "challenge\t{zeros}\t{ones}\t{twos}")
 }
 
 fn main(rt: HostRuntime) -> io::Result<()> {
     let mut bytes = [0u8; ROOM];
     let n = input::fill(&mut rt.reader(), &mut bytes)?;
     let mut form = [0u8; ROOM];
-    let answer = signature::read(1, &bytes[..n], &mut form);
-    // The upper half of an answer is the number of a refusal, or 0.
-    let refusal = (answer / 0x1_0000_0000) as usize;
-    if refusal != 0 {
-        print!(rt; "refused\t")?;
-        return field(&rt, refusal, '\n');
+    match signature::read(1, &bytes[..n], &mut form) {
+        Ok(_) => print_layout(&rt, n, &form[..VALUES]),
+        Err(refusal) => {
+            let number = u64::from(refusal);
+            println!(rt; "refused\t{number}")
+        }
     }
-    print_layout(&rt, n, &form[..VALUES])
 }

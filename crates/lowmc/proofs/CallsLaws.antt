@@ -1,23 +1,21 @@
 -- The calls over LowMC, outcome by outcome.
-use mathlib.Core.Path.{◌≡◌, sym, ◌∙◌}
-use mathlib.Core.Bool.{true, false}
+use mathlib.Core.Path.{◌≡◌, ◌∙◌}
 use Prim.Native.Nat.{ℕ, ◌≤◌}
 use native.Mathlib.Omega.{arith}
 use lib.ListN.{length, length-append}
 use borrow.Author.Tests.{ltb-false}
+use Rattle.std.proofs.Common.{Option, Some, None, Err}
 use Rattle.slices.specs.Slices.{Bytes}
 use Rattle.lowmc.proofs.EncryptedLaws.{length-encrypted}
 use Rattle.sets.specs.declared.Set.{Set}
-use Rattle.sets.specs.declared.Chosen.{Chosen}
-use Rattle.sets.specs.declared.Chosen.TheVariants.{Known, Unknown}
 use Rattle.sets.specs.Lengths.{w, public_length, keys_length, layers_length, constants_length}
 use Rattle.sets.specs.Sets.{IsSet}
 use Rattle.answers.specs.declared.Refusal.{Refusal}
 use Rattle.answers.specs.declared.Refusal.TheVariants.{NoSet}
-use Rattle.answers.specs.Answers.{fine, first}
+use Rattle.answers.specs.Answers.{Fine, first}
 use Rattle.answers.proofs.ConditionsLaws.{tables_same, blocks_same}
 use Rattle.answers.specs.Outcome.{refused, gives}
-use Rattle.answers.proofs.AnswersLaws.{fine_is, none-holds}
+use Rattle.answers.proofs.AnswersLaws.{none-holds}
 use Rattle.answers.proofs.OutcomeLaws.{set_unknown, set_known, unless-refused, unless-given}
 use Rattle.lowmc.specs.Lent.{Lent}
 use Rattle.lowmc.specs.Encrypted.{encrypted, public_key}
@@ -32,11 +30,11 @@ pub record Passed (p : Set) (keys layers constants secret block wanted n : ℕ) 
   pub block_length : block ≡ w p
   pub enough : wanted ≤ n
 
-pub passed : (p : Set) (keys layers constants secret block wanted n : ℕ) (r : Refusal)
-    → r ≡ first (lowmc_checks p keys layers constants secret block wanted n) → fine r ≡ true → Passed p keys layers constants secret block wanted n
+pub passed : (p : Set) (keys layers constants secret block wanted n : ℕ)
+    → first (lowmc_checks p keys layers constants secret block wanted n) ≡ Fine → Passed p keys layers constants secret block wanted n
 unfolding lowmc_checks
-passed p keys layers constants secret block wanted n r is f =
-    let h = none-holds (lowmc_checks p keys layers constants secret block wanted n) tt (sym is ∙ fine_is r f) in
+passed p keys layers constants secret block wanted n f =
+    let h = none-holds (lowmc_checks p keys layers constants secret block wanted n) f in
     let tables = tables_same p keys layers constants h.0 in
     let blocks = blocks_same p secret block h.1.0 in
     record {
@@ -57,32 +55,34 @@ lent p keys layers constants secret block wanted n i h = record {
   constants-length = h.constants-length;
 }
 
-module _ (c : Chosen) (keys layers constants secret block : Bytes) (n : ℕ) where
-  pub encrypt_no_set : c ≡ Unknown → encrypt_outcome c keys layers constants secret block n ≡ refused NoSet
+module _ (c : Option Set) (keys layers constants secret block : Bytes) (n : ℕ) where
+  pub encrypt_no_set : c ≡ None → encrypt_outcome c keys layers constants secret block n ≡ refused NoSet
   unfolding encrypt_outcome
   encrypt_no_set e = set_unknown c _ e
 
-  pub public_no_set : c ≡ Unknown → public_key_outcome c keys layers constants secret block n ≡ refused NoSet
+  pub public_no_set : c ≡ None → public_key_outcome c keys layers constants secret block n ≡ refused NoSet
   unfolding public_key_outcome
   public_no_set e = set_unknown c _ e
 
-  module _ (p : Set) (e : c ≡ Known p) (wanted : ℕ) (r : Refusal)
-      (is : r ≡ first (lowmc_checks p (length keys) (length layers) (length constants) (length secret) (length block) wanted n)) where
-    pub encrypt-refused : wanted ≡ w p → fine r ≡ false → encrypt_outcome c keys layers constants secret block n ≡ refused r
-    unfolding encrypt_outcome
-    encrypt-refused q f = set_known c _ p e ∙ unless-refused _ (encrypted p keys layers constants secret block) r (rw (← q) (sym is)) f
+  module _ (p : Set) (e : c ≡ Some p) (wanted : ℕ) where
+    module _ (r : Refusal)
+        (is : first (lowmc_checks p (length keys) (length layers) (length constants) (length secret) (length block) wanted n) ≡ Err r) where
+      pub encrypt-refused : wanted ≡ w p → encrypt_outcome c keys layers constants secret block n ≡ refused r
+      unfolding encrypt_outcome
+      encrypt-refused q = set_known c _ p e ∙ unless-refused _ (encrypted p keys layers constants secret block) r (rw (← q) is)
 
-    pub encrypt-given : wanted ≡ w p → fine r ≡ true → encrypt_outcome c keys layers constants secret block n ≡ gives (encrypted p keys layers constants secret block)
-    unfolding encrypt_outcome
-    encrypt-given q f = set_known c _ p e ∙ unless-given _ (encrypted p keys layers constants secret block) r (rw (← q) (sym is)) f
+      pub public-refused : wanted ≡ public_length p → public_key_outcome c keys layers constants secret block n ≡ refused r
+      unfolding public_key_outcome
+      public-refused q = set_known c _ p e ∙ unless-refused _ (public_key p keys layers constants secret block) r (rw (← q) is)
 
-    pub public-refused : wanted ≡ public_length p → fine r ≡ false → public_key_outcome c keys layers constants secret block n ≡ refused r
-    unfolding public_key_outcome
-    public-refused q f = set_known c _ p e ∙ unless-refused _ (public_key p keys layers constants secret block) r (rw (← q) (sym is)) f
+    module _ (is : first (lowmc_checks p (length keys) (length layers) (length constants) (length secret) (length block) wanted n) ≡ Fine) where
+      pub encrypt-given : wanted ≡ w p → encrypt_outcome c keys layers constants secret block n ≡ gives (encrypted p keys layers constants secret block)
+      unfolding encrypt_outcome
+      encrypt-given q = set_known c _ p e ∙ unless-given _ (encrypted p keys layers constants secret block) (rw (← q) is)
 
-    pub public-given : wanted ≡ public_length p → fine r ≡ true → public_key_outcome c keys layers constants secret block n ≡ gives (public_key p keys layers constants secret block)
-    unfolding public_key_outcome
-    public-given q f = set_known c _ p e ∙ unless-given _ (public_key p keys layers constants secret block) r (rw (← q) (sym is)) f
+      pub public-given : wanted ≡ public_length p → public_key_outcome c keys layers constants secret block n ≡ gives (public_key p keys layers constants secret block)
+      unfolding public_key_outcome
+      public-given q = set_known c _ p e ∙ unless-given _ (public_key p keys layers constants secret block) (rw (← q) is)
 
 -- ---- how long what is given is
 

@@ -7,7 +7,7 @@ use native.Mathlib.Numerals.{add-one}
 use native.Mathlib.Omega.{arith}
 use lib.Bits.{bit_and, and_le_l}
 use lib.Count.{ones, ones-le}
-use lib.ListN.{get_or, take, drop}
+use lib.ListN.{length, get_or, take, drop}
 use lib.Pow.{pow_mono}
 use Rattle.slices.specs.Slices.{Bytes}
 use Rattle.bits.specs.Bits.{◌⊻◌, Bits, Agree, from}
@@ -73,13 +73,12 @@ low_digit b t e = digit-odd t ∙ ap digit e
 
 -- ---- the word that 64 rows give
 
--- the parity that is computed of a lent row
-pub row-digit : (m : Bytes) (g w : ℕ) (t : Bits) (r : ℕ)
-    → r ≡ digit (row_parity (8 * w) (bits_of (take (g * w + w - g * w) (drop (g * w) m))) t) → r ≡ digit (row_parity (8 * w) (row w m g) t)
+-- the bytes l of row g of m give its parity
+pub row-digit : (m l : Bytes) (g w : ℕ) (t : Bits) → length l ≡ w → l ≡ take w (drop (g * w) m)
+    → digit (row_parity (8 * length l) (bits_of l) t) ≡ digit (row_parity (8 * w) (row w m g) t)
 unfolding row
-row-digit m g w t r h =
-    let d : g * w + w - g * w ≡ w = omega arith in
-    h ∙ ap (λ (k : ℕ). digit (row_parity (8 * w) (bits_of (take k (drop (g * w) m))) t)) d
+row-digit m l g w t n e =
+    ap₂ (λ (k : ℕ) (s : Bytes). digit (row_parity (8 * k) (bits_of s) t)) n e
 
 -- a vector t that stands for v gives the same
 pub rows_for : (m : Bytes) (g w : ℕ) (t v : Bits) (y : ℕ) → w ≤ 32 → Agree 256 t v

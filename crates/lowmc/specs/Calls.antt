@@ -1,8 +1,7 @@
 -- The two calls over LowMC: the encryption of a block, and the public key of a secret key and a plaintext block.
-use Rattle.std.specs.Prelude.{List, [], ◌∷◌, ℕ, length}
+use Rattle.std.specs.Prelude.{List, [], ◌∷◌, ℕ, length, Option}
 use Rattle.slices.specs.Slices.{Bytes}
 use Rattle.sets.specs.declared.Set.{Set}
-use Rattle.sets.specs.declared.Chosen.{Chosen}
 use Rattle.sets.specs.Sets.{numbered}
 use Rattle.sets.specs.Lengths.{w, public_length}
 use Rattle.answers.specs.declared.Refusal.TheVariants.{Table, Key, Room}
@@ -19,7 +18,7 @@ lowmc_checks set keys layers constants secret block wanted output =
     ∷ when (too_short wanted output) Room
     ∷ []
 
-module _ (c : Chosen) (keys layers constants secret p : Bytes) (n : ℕ) where
+module _ (c : Option Set) (keys layers constants secret p : Bytes) (n : ℕ) where
   -- an output must hold w for an encryption
   unfoldable pub encrypt_outcome : Outcome
   encrypt_outcome =

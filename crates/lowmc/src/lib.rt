@@ -8,7 +8,7 @@ ghost use Rattle.bits.specs.Words.{word_bits, block_bits, Holds};
 ghost use Rattle.bits.specs.Inner.{low_bits};
 ghost use Rattle.lowmc.specs.Vectors.{at};
 ghost use Rattle.sets.specs.Sets.{IsSet};
-ghost use Rattle.answers.specs.Answers.{first};
+ghost use Rattle.answers.specs.Answers.{first, back};
 ghost use Rattle.sets.specs.Lengths.{w};
 ghost use Rattle.circuit.specs.Matrices.{row_parity, product};
 ghost use Rattle.circuit.specs.Lowmc.{sboxes};
@@ -21,7 +21,7 @@ mod tables;
 
 use answers::Refusal;
 use bits::Block;
-use sets::{Chosen, Set};
+use sets::Set;
 pub use tables::Tables;
 
 // The ones in word k of row AND v. Words of v have their first byte lowest, as words of the row have when they are loaded: the
@@ -33,27 +33,25 @@ fn ones(row: &[u8], v: Block, k: usize) -> u32
     u64::count_ones(bits::load_low(row, 8 * k) & v.words[k])
 }
 
-// The ones in row AND v: the sum of those in each of the w / 8 words. Each width has an expression of its own, and so a loop over
-// rows of its own.
-fn row_ones(row: &[u8], w: usize, v: Block) -> u32
-    requires { Words w × (length row.now ≡ w) }
-    ensures { odd result ≡ row_parity (8 * w) (bits_of row.now) (low_bits v) }
+// The ones in row AND v: the sum of those in each word of the row. Each width has an expression of its own, and so a loop over rows
+// of its own.
+fn row_ones(row: &[u8], v: Block) -> u32
+    requires { Words (length row.now) }
+    ensures { odd result ≡ row_parity (8 * length row.now) (bits_of row.now) (low_bits v) }
 {
-    if w == 16 {
-        return ones(row, v, 0) + ones(row, v, 1);
+    match row.len() {
+        16 => ones(row, v, 0) + ones(row, v, 1),
+        24 => ones(row, v, 0) + ones(row, v, 1) + ones(row, v, 2),
+        _ => ones(row, v, 0) + ones(row, v, 1) + ones(row, v, 2) + ones(row, v, 3),
     }
-    if w == 24 {
-        return ones(row, v, 0) + ones(row, v, 1) + ones(row, v, 2);
-    }
-    ones(row, v, 0) + ones(row, v, 1) + ones(row, v, 2) + ones(row, v, 3)
 }
 
 // The parity of row AND v: the low bit of the sum.
-fn row_parity(row: &[u8], w: usize, v: Block) -> u32
-    requires { Words w × (length row.now ≡ w) }
-    ensures { result ≡ digit (row_parity (8 * w) (bits_of row.now) (low_bits v)) }
+fn row_parity(row: &[u8], v: Block) -> u32
+    requires { Words (length row.now) }
+    ensures { result ≡ digit (row_parity (8 * length row.now) (bits_of row.now) (low_bits v)) }
 {
-    row_ones(row, w, v) % 2
+    row_ones(row, v) % 2
 }
 
 // Vectors with the bytes of each word in the other order.
@@ -68,13 +66,13 @@ fn turned<const N: usize>(v: [Block; N]) -> [Block; N]
 }
 
 // Words with one bit more: the parity of row AND each of N vectors.
-fn with_row<const N: usize>(x: [u64; N], row: &[u8], w: usize, t: [Block; N]) -> [u64; N]
-    requires { Words w × (length row.now ≡ w) × ((k : ℕ) → k < N → get_or x k 0 * 2 + 1 < 2 ^ 64) }
-    ensures { (k : ℕ) → k < N → get_or result k 0 ≡ get_or x.entry k 0 * 2 + digit (row_parity (8 * w) (bits_of row.now) (low_bits (at t.entry k))) }
+fn with_row<const N: usize>(x: [u64; N], row: &[u8], t: [Block; N]) -> [u64; N]
+    requires { Words (length row.now) × ((k : ℕ) → k < N → get_or x k 0 * 2 + 1 < 2 ^ 64) }
+    ensures { (k : ℕ) → k < N → get_or result k 0 ≡ get_or x.entry k 0 * 2 + digit (row_parity (8 * length row.now) (bits_of row.now) (low_bits (at t.entry k))) }
 {
     let mut y = x;
     for (k, word) in y.iter_mut().enumerate() {
-        *word = *word * 2 + row_parity(row, w, t[k]) as u64;
+        *word = *word * 2 + row_parity(row, t[k]) as u64;
     }
     y
 }
@@ -87,10 +85,11 @@ fn rows_words<const N: usize>(m: &[u8], w: usize, g: usize, v: [Block; N]) -> [u
 {
     let t = turned(v);
     let mut x = [0u64; N];
+    // Rows by number: `chunks_exact` counts the bytes that are left as well, an instruction more for each row.
     for j in 0..64 {
         let start = (g + j) * w;
         let end = start + w;
-        x = with_row(x, &m[start..end], w, t);
+        x = with_row(x, &m[start..end], t);
     }
     x
 }
@@ -239,7 +238,7 @@ fn xor_each<const N: usize>(x: [Block; N], y: [Block; N]) -> [Block; N]
 }
 
 // What the calls over LowMC refuse, by the lengths of their slices.
-fn refusal(
+fn check(
     p: Set,
     keys: usize,
     layers: usize,
@@ -248,20 +247,20 @@ fn refusal(
     block: usize,
     wanted: usize,
     output: usize,
-) -> Refusal
+) -> Result<(), Refusal>
     requires { IsSet p }
     ensures { result ≡ first (lowmc_checks p keys layers constants secret block wanted output) }
 {
     if answers::tables_other(p, keys, layers, constants) {
-        return Refusal::Table;
+        return Err(Refusal::Table);
     }
     if answers::blocks_other(p, secret, block) {
-        return Refusal::Key;
+        return Err(Refusal::Key);
     }
     if output < wanted {
-        return Refusal::Room;
+        return Err(Refusal::Room);
     }
-    Refusal::Fine
+    Ok(())
 }
 
 // The call that encrypts a block.
@@ -273,15 +272,12 @@ pub fn encrypt_call(
     secret: &[u8],
     block: &[u8],
     output: &mut [u8],
-) -> u64
-    ensures { EncryptPromise set keys.now layers.now constants.now secret.now block.now output.old result output.new }
+) -> Result<u32, Refusal>
+    ensures { EncryptPromise set keys.now layers.now constants.now secret.now block.now output.old (back result) output.new }
 {
-    let chosen = Set::numbered(set);
-    let Chosen::Known(p) = chosen else {
-        return Refusal::NoSet.answer(0);
-    };
+    let p = Set::numbered(set).ok_or(Refusal::NoSet)?;
     let n = p.width();
-    let why = refusal(
+    check(
         p,
         keys.len(),
         layers.len(),
@@ -290,10 +286,7 @@ pub fn encrypt_call(
         block.len(),
         n,
         output.len(),
-    );
-    if !why.fine() {
-        return why.answer(0);
-    }
+    )?;
     let tables = Tables {
         set: p,
         keys,
@@ -301,7 +294,7 @@ pub fn encrypt_call(
         constants,
     };
     tables.encrypt(secret, block, output);
-    Refusal::Fine.answer(n as u32)
+    Ok(n as u32)
 }
 
 // The call that forms a public key.
@@ -313,15 +306,12 @@ pub fn public_key_call(
     secret: &[u8],
     block: &[u8],
     output: &mut [u8],
-) -> u64
-    ensures { PublicKeyPromise set keys.now layers.now constants.now secret.now block.now output.old result output.new }
+) -> Result<u32, Refusal>
+    ensures { PublicKeyPromise set keys.now layers.now constants.now secret.now block.now output.old (back result) output.new }
 {
-    let chosen = Set::numbered(set);
-    let Chosen::Known(p) = chosen else {
-        return Refusal::NoSet.answer(0);
-    };
+    let p = Set::numbered(set).ok_or(Refusal::NoSet)?;
     let n = p.public_length();
-    let why = refusal(
+    check(
         p,
         keys.len(),
         layers.len(),
@@ -330,10 +320,7 @@ pub fn public_key_call(
         block.len(),
         n,
         output.len(),
-    );
-    if !why.fine() {
-        return why.answer(0);
-    }
+    )?;
     let tables = Tables {
         set: p,
         keys,
@@ -341,5 +328,5 @@ pub fn public_key_call(
         constants,
     };
     tables.public_key(secret, block, output);
-    Refusal::Fine.answer(n as u32)
+    Ok(n as u32)
 }

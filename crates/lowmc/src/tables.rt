@@ -80,9 +80,8 @@ impl Tables<'_> {
     pub fn encryption(&self, key: Block, block: Block) -> Block
         ensures { block_bits result ≡ encryption (cipher self.now) (block_bits key) (block_bits block) }
     {
-        let r = self.set.r;
         let [mut x] = self.start([key], [block]);
-        for i in 0..r {
+        for i in 0..self.set.r {
             x = self.step(i, key, x);
         }
         x

@@ -37,7 +37,7 @@ module _ (p : Set) (s : Bytes) (a : Bool) (e : a ≡ all is_value (values p s)) 
   unfolding header_wrong
   header_tested h b g = rw (g, ← e, h)
 
-  pub header_failed : a ≡ false → true ≡ header_wrong p s
+  pub header_failed : a ≡ false → not a ≡ header_wrong p s
   unfolding header_wrong
   header_failed h = rw (← e, h)
 

@@ -82,7 +82,7 @@ pub fn padded(s: &[u8], at: usize, m: usize) -> bool
     requires { (0 < m) × ((m ≤ 65536) × (at + width m ≤ length s.now)) }
     ensures { result ≡ zero_padded m (drop at s.now) }
 {
-    let n = (m + 7) / 8;
+    let n = m.div_ceil(8);
     let last = at + (n - 1);
     let unit = 1u8 << (8 * n - m);
     s[last] % unit == 0
@@ -93,10 +93,7 @@ fn header_wrong(p: Set, s: &[u8]) -> bool
     requires { IsSet p × (header_length p ≤ length s.now) }
     ensures { result ≡ header_wrong p s.now }
 {
-    if all_values(p, s) {
-        return !padded(s, 0, 2 * p.t);
-    }
-    true
+    !all_values(p, s) || !padded(s, 0, 2 * p.t)
 }
 
 // The length of a round of value e.
@@ -147,23 +144,23 @@ fn padding_wrong(p: Set, s: &[u8]) -> bool
 }
 
 // The first check of reading that holds.
-pub fn check(p: Set, s: &[u8]) -> Refusal
+pub fn check(p: Set, s: &[u8]) -> Result<(), Refusal>
     requires { IsSet p }
     ensures { result ≡ first (read_checks p s.now) }
 {
     if s.len() < p.header() + Set::SALT {
-        return Refusal::Length;
+        return Err(Refusal::Length);
     }
     if header_wrong(p, s) {
-        return Refusal::Header;
+        return Err(Refusal::Header);
     }
     if s.len() != full_length(p, s) {
-        return Refusal::Length;
+        return Err(Refusal::Length);
     }
     if padding_wrong(p, s) {
-        return Refusal::Padding;
+        return Err(Refusal::Padding);
     }
-    Refusal::Fine
+    Ok(())
 }
 
 // Where the parts of a round of value e stand, if it starts at a place.
@@ -219,10 +216,7 @@ fn pair(values: &[u8], k: usize) -> u8
     requires { AreValues values.now }
     ensures { result ≡ value 2 (from (2 * k) (pair_bits values.now)) }
 {
-    if k < values.len() {
-        return exchanged(values[k]);
-    }
-    0
+    exchanged(values.get(k).copied().unwrap_or(0))
 }
 
 // Byte i of a header: the pairs of four values, the first in the high bits.

@@ -1,4 +1,5 @@
-// The calls that hosts make: numbers and byte slices in, one 64-bit number out. Each forwards to the crate that has its code and proof.
+// The calls that hosts make: numbers and byte slices in, one 64-bit number out. Each forwards to the crate that has its code and
+// proof, and turns what that answers, a Result, into the number.
 // C calls them through `picnic_c`.
 #![tactic(auto)]
 
@@ -10,11 +11,13 @@ ghost use Rattle.verifier.specs.Verify.{Verified};
 ghost use Rattle.lowmc.specs.Calls.{EncryptPromise, PublicKeyPromise};
 ghost use Rattle.shape.specs.Reading.{ReadPromise, WritePromise};
 
+use answers::answer;
+
 // Fills output with the SHAKE of the set, of input.
 pub fn picnic_hash(set: u64, input: &[u8], output: &mut [u8]) -> u64
     ensures { HashPromise set input.now output.old result output.new }
 {
-    hashing::hash(set, input, output)
+    answer(hashing::hash(set, input, output))
 }
 
 // Fills the start of output with the seeds derived from a secret key, a message and a public key.
@@ -27,7 +30,7 @@ pub fn picnic_seeds(
 ) -> u64
     ensures { SeedsPromise set secret.now public.now message.now output.old result output.new }
 {
-    hashing::seeds(set, secret, public, message, output)
+    answer(hashing::seeds(set, secret, public, message, output))
 }
 
 // The encryption of a block under a secret key, at the start of output.
@@ -42,7 +45,9 @@ pub fn picnic_encrypt(
 ) -> u64
     ensures { EncryptPromise set keys.now layers.now constants.now secret.now block.now output.old result output.new }
 {
-    lowmc::encrypt_call(set, keys, layers, constants, secret, block, output)
+    answer(lowmc::encrypt_call(
+        set, keys, layers, constants, secret, block, output,
+    ))
 }
 
 // The public key of a secret key and a plaintext block, at the start of output.
@@ -57,28 +62,30 @@ pub fn picnic_public_key(
 ) -> u64
     ensures { PublicKeyPromise set keys.now layers.now constants.now secret.now block.now output.old result output.new }
 {
-    lowmc::public_key_call(set, keys, layers, constants, secret, block, output)
+    answer(lowmc::public_key_call(
+        set, keys, layers, constants, secret, block, output,
+    ))
 }
 
 // The T values of a challenge from at most limit blocks, one a byte, at the start of output.
 pub fn picnic_challenge(set: u64, input: &[u8], limit: u64, output: &mut [u8]) -> u64
     ensures { ChallengePromise set input.now limit output.old result output.new }
 {
-    challenge::challenge(set, input, limit, output)
+    answer(challenge::challenge(set, input, limit, output))
 }
 
 // A signature into its unpacked form, at the start of output.
 pub fn picnic_read(set: u64, signature: &[u8], output: &mut [u8]) -> u64
     ensures { ReadPromise set signature.now output.old result output.new }
 {
-    signature::read(set, signature, output)
+    answer(signature::read(set, signature, output))
 }
 
 // An unpacked form into its signature, at the start of output.
 pub fn picnic_write(set: u64, unpacked: &[u8], output: &mut [u8]) -> u64
     ensures { WritePromise set unpacked.now output.old result output.new }
 {
-    signature::write(set, unpacked, output)
+    answer(signature::write(set, unpacked, output))
 }
 
 // Signs message: the signature at the start of output. The room's needed bytes are set to zero once the first seven checks pass.
@@ -111,9 +118,9 @@ pub fn picnic_sign(
         })
         result room.new output.new }
 {
-    signer::sign(
+    answer(signer::sign(
         set, keys, layers, constants, secret, public, message, limit, seeds, room, output,
-    )
+    ))
 }
 
 // Verifies the signature of message: 0 if it is valid. The room's needed bytes are set to zero once the signature is read.
@@ -142,7 +149,8 @@ pub fn picnic_verify(
         })
         result room.new }
 {
-    verifier::verify(
+    let verdict = verifier::verify(
         set, keys, layers, constants, public, message, limit, room, signature,
-    )
+    );
+    answer(verdict.and(Ok(0)))
 }

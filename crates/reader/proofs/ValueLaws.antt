@@ -11,14 +11,13 @@ use Rattle.bits.specs.Bytes.{bit, bits_of, digit}
 use Rattle.bits.proofs.NumberLaws.{bit_zero}
 use Rattle.shape.specs.Header.{value_at, place}
 use Rattle.reader.specs.declared.Position.{Position}
-use Rattle.reader.specs.declared.Next.{Next}
-use Rattle.reader.specs.declared.Next.TheVariants.{Bit, End}
+use Rattle.std.specs.Prelude.{Option, Some, None}
 use Rattle.reader.specs.Reading.{bit_number, position, within, next_bit, after_bit, digit_of}
 
-pub digit-small : (b : Next) → digit_of b < 2
-digit-small (Bit true) = lit< tt
-digit-small (Bit false) = lit< tt
-digit-small End = lit< tt
+pub digit-small : (b : Option Bool) → digit_of b < 2
+digit-small (Some true) = lit< tt
+digit-small (Some false) = lit< tt
+digit-small None = lit< tt
 
 -- where the value at place k starts
 abbrev pub first : ℕ → Position
@@ -33,8 +32,8 @@ zero_past s at h = ap digit (ap (λ (x : ℕ). bit x (7 - at % 8)) (get_or-eq_de
 digit_at : (s : Bytes) (at : ℕ) → digit_of (next_bit s at) ≡ digit (bits_of s at)
 digit_at s at = go (within s at) refl where
   go : (b : Bool) → within s at ≡ b → digit_of (next_bit s at) ≡ digit (bits_of s at)
-  go true e = ap (λ (b : Bool). digit_of (cond b (Bit (bits_of s at)) End)) e
-  go false e = ap (λ (b : Bool). digit_of (cond b (Bit (bits_of s at)) End)) e ∙ sym (zero_past s at (ltb-false (at / 8) (length s) e))
+  go true e = ap (λ (b : Bool). digit_of (cond b (Some (bits_of s at)) None)) e
+  go false e = ap (λ (b : Bool). digit_of (cond b (Some (bits_of s at)) None)) e ∙ sym (zero_past s at (ltb-false (at / 8) (length s) e))
 
 -- and so is the bit behind it, whether the position moves on or stays
 digit-behind : (s : Bytes) (k : ℕ) → digit (bits_of s (bit_number (after_bit s (first k)))) ≡ digit (bits_of s (2 * k + 1))

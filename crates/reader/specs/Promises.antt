@@ -1,10 +1,9 @@
 -- What each method of the reader promises, and that no promise leaves anything open.
-use Rattle.std.specs.Prelude.{◌≡◌, Bool, ℕ, length}
+use Rattle.std.specs.Prelude.{◌≡◌, Bool, Option, ℕ, length}
 use Rattle.slices.specs.Slices.{Bytes}
 use Rattle.shape.specs.Header.{value_at}
 use Rattle.std.specs.Borrow.{Bor}
 use Rattle.reader.specs.declared.Reader.{Reader}
-use Rattle.reader.specs.declared.Next.{Next}
 use Rattle.reader.specs.Reading.{bit_number, position, next_bit, follow, next_bytes, past_bit, past_bytes}
 
 -- `Reader::new`: the reader holds the signature lent, and stands at its first bit
@@ -12,8 +11,8 @@ pub record Started (signature : Bor Bytes) (made : Reader) : Type 0 where
   pub holds : made.signature ≡ signature
   pub stands : made.at ≡ position 0
 
--- `Reader::next_bit`: the next bit or the end, and the reader behind it
-pub record BitRead (before : Reader) (found : Next) (after : Reader) : Type 0 where
+-- `Reader::next_bit`: the next bit, if there is one, and the reader behind it
+pub record BitRead (before : Reader) (found : Option Bool) (after : Reader) : Type 0 where
   pub answered : found ≡ next_bit before.signature.now (bit_number before.at)
   pub stands : after ≡ past_bit before
 
@@ -32,7 +31,7 @@ ValueRead s k found = found ≡ value_at s k
 pub record EveryMethodIsSettled : Type 0 where
   pub new : (signature : Bor Bytes) (r r' : Reader) → Started signature r → Started signature r' → r ≡ r'
   pub next_bit :
-      (before : Reader) (b b' : Next) (r r' : Reader) → BitRead before b r → BitRead before b' r' → (b ≡ b') × (r ≡ r')
+      (before : Reader) (b b' : Option Bool) (r r' : Reader) → BitRead before b r → BitRead before b' r' → (b ≡ b') × (r ≡ r')
   pub next-bytes :
       (before : Reader) (out : Bytes) (b b' : Bool) (left left' : Bytes) (r r' : Reader)
       → BytesRead before out b left r → BytesRead before out b' left' r' → (b ≡ b') × ((left ≡ left') × (r ≡ r'))

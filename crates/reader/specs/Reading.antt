@@ -1,11 +1,9 @@
 -- What a reader at a bit position finds: the next bit, or the next whole bytes, and where it stands behind them.
-use Rattle.std.specs.Prelude.{Bool, cond, ℕ, ◌+◌, ◌*◌, ◌/◌, ◌%◌, ltb, leb, length}
+use Rattle.std.specs.Prelude.{Bool, cond, Option, Some, None, ℕ, ◌+◌, ◌*◌, ◌/◌, ◌%◌, ltb, leb, length}
 use Rattle.slices.specs.Slices.{Bytes, part}
 use Rattle.bits.specs.Bytes.{bits_of, digit, width}
 use Rattle.reader.specs.declared.Position.{Position}
 use Rattle.reader.specs.declared.Reader.{Reader}
-use Rattle.reader.specs.declared.Next.{Next}
-use Rattle.reader.specs.declared.Next.TheVariants.{Bit, End}
 
 -- the bit position that byte and bit say, whatever the two are
 abbrev pub bit_number : Position → ℕ
@@ -19,9 +17,9 @@ position at = record { byte = at / 8; bit = at % 8 }
 abbrev pub within : Bytes → ℕ → Bool
 within s at = ltb (at / 8) (length s)
 
--- the bit at a position, or the end
-abbrev pub next_bit : Bytes → ℕ → Next
-next_bit s at = cond (within s at) (Bit (bits_of s at)) End
+-- the bit at a position; at the end there is none
+abbrev pub next_bit : Bytes → ℕ → Option Bool
+next_bit s at = cond (within s at) (Some (bits_of s at)) None
 
 -- the position behind that bit; at the end it stays
 abbrev pub after_bit : Bytes → Position → Position
@@ -40,9 +38,9 @@ abbrev pub after_bytes : Bytes → Position → ℕ → Position
 after_bytes s at n = cond (follow s (bit_number at) n) (position (8 * (width (bit_number at) + n))) at
 
 -- a bit as a number; the end counts as a zero bit
-abbrev pub digit_of : Next → ℕ
-digit_of (Bit b) = digit b
-digit_of End = 0
+abbrev pub digit_of : Option Bool → ℕ
+digit_of (Some b) = digit b
+digit_of None = 0
 
 -- a reader behind its next bit
 abbrev pub past_bit : Reader → Reader

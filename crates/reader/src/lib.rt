@@ -3,7 +3,7 @@
 // position are held apart, so that no number overflows, however long the slice is and wherever a caller puts the position.
 #![tactic(auto)]
 
-ghost use Rattle.std.specs.Prelude.{◌≡◌, ◌+◌, ◌*◌, length};
+ghost use Rattle.std.specs.Prelude.{◌≡◌, ◌+◌, ◌*◌, ◌/◌, length, MatchOption, true, false};
 ghost use Rattle.bits.specs.Bytes.{width};
 ghost use Rattle.reader.specs.Reading.{bit_number, within, next_bit, after_bit, follow, next_bytes, after_bytes, digit_of};
 ghost use Rattle.reader.specs.Promises.{Started, BitRead, BytesRead, ValueRead};
@@ -23,107 +23,89 @@ pub struct Reader<'a> {
     pub at: Position,
 }
 
-// What the next bit is, or that there is none.
-#[derive(Clone, Copy)]
-pub enum Next {
-    Bit(bool),
-    End,
-}
-
-// Whether there is a bit at a position.
-fn within(s: &[u8], at: Position) -> bool
-    ensures { result ≡ within s.now (bit_number at) }
+// The byte with the bit at a position, if there is one.
+fn byte_at(s: &[u8], at: Position) -> Option<usize>
+    ensures { MatchOption result (within s.now (bit_number at) ≡ false)
+        (λ byte. (within s.now (bit_number at) ≡ true) × (byte ≡ bit_number at / 8)) }
 {
-    if at.byte < s.len() {
-        return at.bit / 8 < s.len() - at.byte;
-    }
-    false
+    let byte = at.byte.checked_add(at.bit / 8)?;
+    (byte < s.len()).then_some(byte)
 }
 
-// The bit at a position, or the end.
-pub fn bit_at(s: &[u8], at: Position) -> Next
+// The bit at a position; at the end there is none.
+pub fn bit_at(s: &[u8], at: Position) -> Option<bool>
     ensures { result ≡ next_bit s.now (bit_number at) }
 {
-    if within(s, at) {
-        let byte = at.byte + at.bit / 8;
-        return Next::Bit((s[byte] >> (7 - at.bit % 8)) % 2 == 1);
-    }
-    Next::End
+    let byte = byte_at(s, at)?;
+    Some((s[byte] >> (7 - at.bit % 8)) % 2 == 1)
 }
 
 // The position behind that bit; at the end it stays.
 pub fn after_bit(s: &[u8], at: Position) -> Position
     ensures { result ≡ after_bit s.now at }
 {
-    if within(s, at) {
-        let next = at.bit % 8 + 1;
-        return Position {
-            byte: at.byte + at.bit / 8 + next / 8,
-            bit: next % 8,
-        };
+    let Some(byte) = byte_at(s, at) else {
+        return at;
+    };
+    let next = at.bit % 8 + 1;
+    Position {
+        byte: byte + next / 8,
+        bit: next % 8,
     }
-    at
 }
 
 // The bytes that so many bits take.
 fn whole(bits: usize) -> usize
     ensures { result ≡ width bits }
 {
-    bits / 8 + (bits % 8 + 7) / 8
+    bits.div_ceil(8)
 }
 
-// Whether n whole bytes follow a position.
-fn follow(s: &[u8], at: Position, n: usize) -> bool
-    ensures { result ≡ follow s.now (bit_number at) n }
+// Where n whole bytes that follow a position start, if so many do.
+fn start_of(s: &[u8], at: Position, n: usize) -> Option<usize>
+    ensures { MatchOption result (follow s.now (bit_number at) n ≡ false)
+        (λ start. (follow s.now (bit_number at) n ≡ true) × (start ≡ width (bit_number at))) }
 {
-    let begun = whole(at.bit);
-    if s.len() < at.byte {
-        return false;
-    }
-    if s.len() - at.byte < begun {
-        return false;
-    }
-    n <= s.len() - at.byte - begun
+    let start = at.byte.checked_add(whole(at.bit))?;
+    let left = s.len().checked_sub(start)?;
+    (n <= left).then_some(start)
 }
 
-// As many whole bytes as out has, from a position on. Where fewer follow, out is kept and the answer is false.
+// As many whole bytes as out has, from a position on. Where fewer follow, out is kept and the answer is false. The bytes go into
+// out, so that beside a bool nothing is left to answer.
 pub fn bytes_at(s: &[u8], at: Position, out: &mut [u8]) -> bool
     ensures { (result ≡ follow s.now (bit_number at) (length out.old)) × (out.new ≡ next_bytes s.now (bit_number at) out.old) }
 {
     let n = out.len();
-    if follow(s, at, n) {
-        let start = at.byte + whole(at.bit);
-        copy(&s[start..start + n], out);
-        return true;
-    }
-    false
+    let Some(start) = start_of(s, at, n) else {
+        return false;
+    };
+    copy(&s[start..start + n], out);
+    true
 }
 
 // The position behind n whole bytes; where fewer follow it stays.
 pub fn after_bytes(s: &[u8], at: Position, n: usize) -> Position
     ensures { result ≡ after_bytes s.now at n }
 {
-    if follow(s, at, n) {
-        return Position {
-            byte: at.byte + whole(at.bit) + n,
-            bit: 0,
-        };
+    let Some(start) = start_of(s, at, n) else {
+        return at;
+    };
+    Position {
+        byte: start + n,
+        bit: 0,
     }
-    at
 }
 
 // A bit as a number; the end counts as a zero bit.
-fn digit(b: Next) -> u8
+fn digit(b: Option<bool>) -> u8
     ensures { result ≡ digit_of b }
 {
-    match b {
-        Next::Bit(x) => x as u8,
-        Next::End => 0,
-    }
+    b.map_or(0, u8::from)
 }
 
 // The number of two bits, the low bit first.
-fn pair(low: Next, high: Next) -> u8
+fn pair(low: Option<bool>, high: Option<bool>) -> u8
     ensures { result ≡ digit_of low + 2 * digit_of high }
 {
     digit(low) + 2 * digit(high)
@@ -141,7 +123,7 @@ impl<'a> Reader<'a> {
     }
 
     // The next bit; the reader then stands behind it. At the end it stays where it is.
-    pub fn next_bit<'s>(&'s mut self) -> Next
+    pub fn next_bit<'s>(&'s mut self) -> Option<bool>
         ensures { BitRead self.old result self.new }
     {
         let s = self.signature;

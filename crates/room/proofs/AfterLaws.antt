@@ -1,9 +1,9 @@
 -- Laws of the room after a call: what was filled stands at its start, clearing leaves the rest, and which checks keep it.
-use mathlib.Core.Path.{◌≡◌, refl, ap, ◌∙◌}
+use mathlib.Core.Path.{◌≡◌, refl, sym, ap, ◌∙◌}
 use mathlib.Core.Bool.{Bool, true, false, cond}
 use mathlib.Core.List.{List, [], ◌∷◌}
 use Prim.Native.Nat.{ℕ}
-use native.Mathlib.Omega.{arith}
+use Rattle.std.proofs.Common.{Err}
 use lib.Dec.{T}
 use lib.ListN.{length, take, drop}
 use lib.Seq.{take_at, drop_at}
@@ -12,7 +12,7 @@ use Rattle.slices.proofs.SliceLaws.{cleared_rest}
 use Rattle.sets.specs.declared.Set.{Set}
 use Rattle.sets.specs.Lengths.{room_length}
 use Rattle.answers.specs.declared.Refusal.{Refusal}
-use Rattle.answers.specs.Answers.{Check, fine, first}
+use Rattle.answers.specs.Answers.{Checked, Check, first}
 use Rattle.room.specs.Room.{clears}
 
 -- ---- a room that was filled with vs, as many bytes as are needed
@@ -36,16 +36,16 @@ module _ (p : Set) (vs room : Bytes) (l : length vs ≡ room_length p) {filled :
 -- each check of a list keeps it
 abbrev pub keeping : List Check → Bool
 keeping [] = true
-keeping (k ∷ ks) = cond (clears k.gives) false (keeping ks)
+keeping (k ∷ ks) = cond (clears (Err k.gives)) false (keeping ks)
 
-keeps_one : (b c : Bool) (r x : Refusal) (rest : Bool) → clears r ≡ c → T (cond c false rest) → (T rest → fine x ≡ false → clears x ≡ false)
-    → fine (cond b r x) ≡ false → clears (cond b r x) ≡ false
-keeps_one true false r x rest e t h f = e
-keeps_one false false r x rest e t h f = h t f
-keeps_one b true r x rest e t h f = absurd t
+keeps_one : (b c : Bool) (g : Refusal) (x : Checked) (rest : Bool) {r : Refusal} → clears (Err g) ≡ c → T (cond c false rest)
+    → (T rest → x ≡ Err r → clears (Err r) ≡ false) → cond b (Err g) x ≡ Err r → clears (Err r) ≡ false
+keeps_one true false g x rest e t h f = ap clears (sym f) ∙ e
+keeps_one false false g x rest e t h f = h t f
+keeps_one b true g x rest e t h f = absurd t
 
 -- and so does the first that holds
-pub keeps_first : (ks : List Check) → T (keeping ks) → fine (first ks) ≡ false → clears (first ks) ≡ false
+pub keeps_first : (ks : List Check) → T (keeping ks) → {r : Refusal} → first ks ≡ Err r → clears (Err r) ≡ false
 unfolding first
-keeps_first [] t f = absurd (let z : ◌≡◌ {A = ℕ} 0 1 = ap (λ (b : Bool). cond b 0 1) f in omega arith)
-keeps_first (k ∷ ks) t f = keeps_one k.holds (clears k.gives) k.gives (first ks) (keeping ks) refl t (keeps_first ks) f
+keeps_first [] t {r} f = cc
+keeps_first (k ∷ ks) t {r} f = keeps_one k.holds (clears (Err k.gives)) k.gives (first ks) (keeping ks) refl t (λ u. keeps_first ks u) f

@@ -21,7 +21,7 @@ use Rattle.circuit.specs.Round.{Party, party0, party1, party2}
 use Rattle.circuit.specs.Tapes.{party_number, tape_length}
 use Rattle.lowmc.specs.Lent.{cipher_of}
 use Rattle.shake.specs.Sponge.{started, absorbed}
-use Rattle.challenge.specs.declared.Filled.{Filled}
+use Rattle.answers.specs.Answers.{Checked}
 use Rattle.challenge.specs.Filling.{Fills}
 use Rattle.views.specs.Input.{challenge_input}
 use Rattle.room.specs.Room.{commitments_at}
@@ -126,5 +126,5 @@ unfolding challenge_input
 fed_input r filled salt public message = ap (absorbed (started r)) (simp append_assoc)
 
 -- filled from the first block of the input
-pub filled-from : (p : Set) (b b' : Bytes) (limit : ℕ) (out out' : Bytes) (r : Filled) → b ≡ b' → Fills p b limit out r out' → Fills p b' limit out r out'
+pub filled-from : (p : Set) (b b' : Bytes) (limit : ℕ) (out out' : Bytes) (r : Checked) → b ≡ b' → Fills p b limit out r out' → Fills p b' limit out r out'
 filled-from p b b' limit out out' r e f = rw (← e) f

@@ -19,8 +19,8 @@ ghost use Rattle.views.specs.Signed.{tape_of};
 ghost use Rattle.views.specs.Input.{challenge_input};
 ghost use Rattle.room.specs.Room.{shares_at, commitments_at};
 
+use answers::Refusal;
 use bits::{Block, Strip};
-use challenge::Filled;
 use sets::Set;
 
 // The bytes of the tape of party j.
@@ -136,7 +136,8 @@ pub fn put_commitments(p: Set, t: usize, e: u8, x: &[u8], y: &[u8], z: &[u8], ro
     put_by_party(e, x, y, z, room, at);
 }
 
-// The challenge of a filled room, public key, salt and message: T values at the start of out, one a byte, and whether they fill place T.
+// The challenge of a filled room, public key, salt and message: T values at the start of out, one a byte; refused if they do not
+// fill place T.
 pub fn challenge(
     p: Set,
     filled: &[u8],
@@ -145,7 +146,7 @@ pub fn challenge(
     message: &[u8],
     limit: u64,
     out: &mut [u8],
-) -> Filled
+) -> Result<(), Refusal>
     requires { IsSet p × (p.t ≤ length out.old) }
     ensures { Fills p (h p 1 (challenge_input filled.now salt.now public.now message.now)) limit
         out.old result out.new }

@@ -1,8 +1,6 @@
 -- The three sets of 01's table, and which number names which.
-use Rattle.std.specs.Prelude.{cond, ℕ, eqb}
+use Rattle.std.specs.Prelude.{cond, ℕ, eqb, Option, Some, None}
 use Rattle.sets.specs.declared.Set.{Set}
-use Rattle.sets.specs.declared.Chosen.{Chosen}
-use Rattle.sets.specs.declared.Chosen.TheVariants.{Known, Unknown}
 
 -- picnic-L1-FS
 abbrev pub l1 : Set
@@ -23,5 +21,5 @@ pub data IsSet : Set → Type 0 where
   is_l5 : IsSet l5
 
 -- the set of a number: 1, 2 or 3, and no other
-abbrev pub numbered : ℕ → Chosen
-numbered k = cond (eqb k 1) (Known l1) (cond (eqb k 2) (Known l3) (cond (eqb k 3) (Known l5) Unknown))
+abbrev pub numbered : ℕ → Option Set
+numbered k = cond (eqb k 1) (Some l1) (cond (eqb k 2) (Some l3) (cond (eqb k 3) (Some l5) None))

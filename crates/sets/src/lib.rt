@@ -23,13 +23,6 @@ pub struct Set {
     pub digest: usize,
 }
 
-// What a set number names.
-#[derive(Clone, Copy)]
-pub enum Chosen {
-    Known(Set),
-    Unknown,
-}
-
 impl Set {
     pub const L1: Set = Set {
         n: 128,
@@ -82,15 +75,15 @@ impl Set {
         Set::L5
     }
 
-    // The set of a number.
-    pub fn numbered(k: u64) -> Chosen
+    // The set of a number, if it names one.
+    pub fn numbered(k: u64) -> Option<Set>
         ensures { result ≡ numbered k }
     {
         match k {
-            1 => Chosen::Known(Set::picnic_l1_fs()),
-            2 => Chosen::Known(Set::picnic_l3_fs()),
-            3 => Chosen::Known(Set::picnic_l5_fs()),
-            _ => Chosen::Unknown,
+            1 => Some(Set::picnic_l1_fs()),
+            2 => Some(Set::picnic_l3_fs()),
+            3 => Some(Set::picnic_l5_fs()),
+            _ => None,
         }
     }
 

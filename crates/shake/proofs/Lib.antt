@@ -1,4 +1,3 @@
-pub mod PartLaws
 pub mod OctetsLaws
 pub mod StateLaws
 pub mod SpongeLaws

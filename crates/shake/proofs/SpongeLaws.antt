@@ -1,22 +1,20 @@
--- Laws of the sponge as a value: pieces, what stays within a block, and what each method keeps.
+-- Laws of the sponge as a value: pieces, what stays within a block, and what stays.
 use mathlib.Core.Path.{◌≡◌, refl, sym, ap, ap₂, ◌∙◌, subst}
 use mathlib.Core.Bool.{Bool, true, false}
 use mathlib.Core.List.{[], ◌∷◌, ◌++◌}
-use Prim.Native.Nat.{ℕ, zero, suc, ◌+◌, ◌-◌, ◌<◌, ◌≤◌}
+use Prim.Native.Nat.{ℕ, zero, suc, ◌+◌, ◌<◌, ◌≤◌}
 use native.Mathlib.Omega.{arith}
 use native.Mathlib.Nat.{zero-add, suc-add, add-zero}
 use lib.Dec.{eqb}
-use lib.ListN.{length, take}
-use lib.Seq.{take-add, take-length}
+use lib.ListN.{length}
 use borrow.Author.Tests.{eq-eqb, ne_eqb, eqb-true, eqb-false}
 use Rattle.keccak.specs.Lanes.{Lanes, permuted}
 use Rattle.keccak.proofs.LanesLaws.{length-permuted}
-use Rattle.slices.specs.Slices.{Bytes, part, put}
-use Rattle.slices.proofs.SliceLaws.{put-none, put-put, put-start, over-whole}
+use Rattle.slices.specs.Slices.{Bytes, put, over}
+use Rattle.slices.proofs.SliceLaws.{over_none, over-put, over-whole}
 use Rattle.shake.specs.declared.Sponge.{Sponge}
 use Rattle.shake.specs.Shake.{byte_at, bytes_at, byte_added, added}
-use Rattle.shake.specs.Sponge.{sponge, absorbed_byte, absorbed, ready, passed, given, squeezed, Taking, Giving, AbsorbsInPieces, SqueezesInPieces}
-use Rattle.shake.proofs.PartLaws.{length_part}
+use Rattle.shake.specs.Sponge.{sponge, absorbed_byte, absorbed, ready, passed, given, squeezed, AbsorbsInPieces, SqueezesInPieces}
 use Rattle.shake.proofs.StateLaws.{length-byte_added}
 
 -- ---- pieces
@@ -33,10 +31,6 @@ absorbed-append = absorbs_in_pieces
 pub absorbed-none : (s : Sponge) → s ≡ absorbed s []
 unfolding absorbed
 absorbed-none s = refl
-
-pub absorbed-one : (s : Sponge) (b : ℕ) → absorbed_byte s b ≡ absorbed s (b ∷ [])
-unfolding absorbed
-absorbed-one s b = refl
 
 pub squeezed-add : (s : Sponge) (m n : ℕ) → squeezed (squeezed s m) n ≡ squeezed s (m + n)
 unfolding squeezed
@@ -97,30 +91,13 @@ absorbed_full r a j (b ∷ (d ∷ p)) h e =
     ap (λ (s : Sponge). absorbed s (d ∷ p)) (absorbed-next r a j b (λ q. omega arith))
     ∙ absorbed_full r (byte_added a j b) (j + 1) (d ∷ p) (omega arith) (omega arith)
 
--- s has taken in i bytes of m: the part that fills the block
-pub absorbed_block : (s : Sponge) (m : Bytes) (r : ℕ) (a : Lanes) (j i : ℕ) (b d : Lanes) → sponge r a j ≡ absorbed s (take i m) → j < r
-    → i + (r - j) ≤ length m → b ≡ added a j (part m i (r - j)) → d ≡ permuted b → sponge r d 0 ≡ absorbed s (take (i + (r - j)) m)
-absorbed_block s m r a j i b d e h l p q =
-    let n = r - j in
-    ap (λ (x : Lanes). sponge r x 0) (q ∙ ap permuted p)
-    ∙ sym (absorbed_full r a j (part m i n) h (omega (arith, length_part m i n l)))
-    ∙ ap (λ (t : Sponge). absorbed t (part m i n)) e
-    ∙ absorbed-append s (take i m) (part m i n)
-    ∙ ap (absorbed s) (sym (take-add i n m))
-
--- and the rest, which leaves room
-pub absorbed_rest : (s : Sponge) (m : Bytes) (r : ℕ) (a : Lanes) (j i : ℕ) (b : Lanes) → sponge r a j ≡ absorbed s (take i m) → i ≤ length m
-    → j + (length m - i) < r → b ≡ added a j (part m i (length m - i)) → sponge r b (j + (length m - i)) ≡ absorbed s m
-absorbed_rest s m r a j i b e l h p =
-    let n = length m - i in
-    let lp = length_part m i n (omega arith) in
-    let z : i + n ≡ length m = omega arith in
-    ap (λ (x : Lanes). sponge r x (j + n)) p
-    ∙ ap (λ (k : ℕ). sponge r (added a j (part m i n)) (j + k)) (sym lp)
-    ∙ sym (absorbed-room r a j (part m i n) (omega (arith, lp)))
-    ∙ ap (λ (t : Sponge). absorbed t (part m i n)) e
-    ∙ absorbed-append s (take i m) (part m i n)
-    ∙ ap (absorbed s) (sym (take-add i n m) ∙ ap (λ (k : ℕ). take k m) z ∙ take-length m)
+-- what is to be taken in, the bytes p that fill the block first
+pub absorbed_block : (r : ℕ) (a b d : Lanes) (j : ℕ) (p q : Bytes) → j < r → j + length p ≡ r → b ≡ added a j p → d ≡ permuted b
+    → absorbed (sponge r d 0) q ≡ absorbed (sponge r a j) (p ++ q)
+absorbed_block r a b d j p q h l e f =
+    ap (λ (x : Lanes). absorbed (sponge r x 0) q) (f ∙ ap permuted e)
+    ∙ ap (λ (t : Sponge). absorbed t q) (sym (absorbed_full r a j p h l))
+    ∙ absorbed-append (sponge r a j) p q
 
 -- ---- giving, within a block
 
@@ -175,41 +152,39 @@ unfolding squeezed
 squeezed-ready s zero h l = absurd (omega arith)
 squeezed-ready s (suc n) h l = rw (ready_twice s h)
 
--- s has given i bytes: n more from the block that is ready
-pub squeezed_block : (s : Sponge) (r : ℕ) (a b : Lanes) (j k i n : ℕ) → sponge r a j ≡ squeezed s i → sponge r b k ≡ ready (sponge r a j)
-    → 0 < r → 0 < n → k + n ≤ r → (sponge r b (k + n) ≡ squeezed s (i + n)) × (given s i ++ bytes_at b k n ≡ given s (i + n))
-squeezed_block s r a b j k i n e f hr hn h = (
-  sym (squeezed-room r b k n h) ∙ ap (λ (t : Sponge). squeezed t n) f ∙ squeezed-ready (sponge r a j) n hr hn
-      ∙ ap (λ (t : Sponge). squeezed t n) e ∙ squeezed-add s i n,
+-- s has given i bytes and is now t: n more from u, the block that is ready
+pub squeezed_block : (s t u : Sponge) (i n : ℕ) → t ≡ squeezed s i → u ≡ ready t → 0 < t.rate → 0 < n → u.at + n ≤ u.rate
+    → (sponge u.rate u.lanes (u.at + n) ≡ squeezed s (i + n)) × (given s i ++ bytes_at u.lanes u.at n ≡ given s (i + n))
+squeezed_block s t u i n e f hr hn h = (
+  sym (squeezed-room u.rate u.lanes u.at n h) ∙ ap (λ (x : Sponge). squeezed x n) f ∙ squeezed-ready t n hr hn
+      ∙ ap (λ (x : Sponge). squeezed x n) e ∙ squeezed-add s i n,
   ap (λ (p : Bytes). given s i ++ p)
-      (sym (given-room r b k n h) ∙ ap (λ (t : Sponge). given t n) f ∙ given-ready (sponge r a j) n hr hn ∙ ap (λ (t : Sponge). given t n) e)
+      (sym (given-room u.rate u.lanes u.at n h) ∙ ap (λ (x : Sponge). given x n) f ∙ given-ready t n hr hn ∙ ap (λ (x : Sponge). given x n) e)
       ∙ given-add s i n,
 )
 
 -- ---- bytes given into a slice
 
-pub put-given-none : (s : Sponge) (o : Bytes) → o ≡ put o 0 (given s 0)
+pub over-given-none : (s : Sponge) (o : Bytes) → o ≡ over (given s 0) o
 unfolding given
-put-given-none s o = sym (put-none o 0)
+over-given-none s o = over_none o
 
 -- n more behind the first i
-pub put-given : (s : Sponge) (o t : Bytes) (i n : ℕ) (p u : Bytes) → i + n ≤ length o → t ≡ put o 0 (given s i) → length p ≡ n
-    → given s i ++ p ≡ given s (i + n) → u ≡ put t i p → u ≡ put o 0 (given s (i + n))
-put-given s o t i n p u h e l g f =
+pub over-given : (s : Sponge) (o t : Bytes) (i n : ℕ) (p q : Bytes) → i + n ≤ length o → t ≡ over (given s i) o → length q ≡ n → p ≡ q
+    → given s i ++ q ≡ given s (i + n) → put t i p ≡ over (given s (i + n)) o
+over-given s o t i n p q h e l f g =
     let li = length-given s i in
-    let z : i ≡ 0 + length (given s i) = omega (arith, li) in
-    f ∙ ap (λ (x : Bytes). put x i p) e ∙ ap (λ (k : ℕ). put (put o 0 (given s i)) k p) z
-    ∙ put-put o 0 (given s i) p (omega (arith, li)) ∙ ap (put o 0) g
+    ap₂ (λ (x y : Bytes). put x i y) e f ∙ ap (λ (k : ℕ). put (over (given s i) o) k q) (sym li)
+    ∙ over-put (given s i) q o (omega (arith, li, l)) ∙ ap (λ (x : Bytes). over x o) g
 
 -- the slice is full
-pub put-given-all : (s : Sponge) (o : Bytes) → put o 0 (given s (length o)) ≡ given s (length o)
-put-given-all s o = put-start o (given s (length o)) ∙ over-whole (given s (length o)) o (length-given s (length o))
+pub over-given-all : (s : Sponge) (o : Bytes) → over (given s (length o)) o ≡ given s (length o)
+over-given-all s o = over-whole (given s (length o)) o (length-given s (length o))
 
 -- ---- what stays
 
--- rate, room and length, after one byte taken in
+-- rate and length, after one byte taken in
 record Kept (s t : Sponge) : Type 0 where
-  taking : Taking s → Taking t
   rate : t.rate ≡ s.rate
   lanes : length s.lanes ≡ 25 → length t.lanes ≡ 25
 
@@ -228,49 +203,22 @@ kept_byte s b = go (eqb (s.at + 1) s.rate) refl
     go : (t : Bool) → eqb (s.at + 1) s.rate ≡ t → Kept s (absorbed_byte s b)
     go true e =
         subst (Kept s) (sym (absorbed-last s.rate s.lanes s.at b (eqb-true _ _ e)))
-        (record { taking = λ t. record { rated = t.rated; room = t.rated.some }; rate = refl; lanes = λ l. length-permuted a (la l) })
+        (record { rate = refl; lanes = λ l. length-permuted a (la l) })
     go false e =
         let n = eqb-false _ _ e in
         subst (Kept s) (sym (absorbed-next s.rate s.lanes s.at b n))
-        (record { taking = λ t. record { rated = t.rated; room = omega (arith, t.room) }; rate = refl; lanes = la })
+        (record { rate = refl; lanes = la })
 
 kept : (s : Sponge) (m : Bytes) → Kept s (absorbed s m)
 unfolding absorbed
-kept s [] = record { taking = λ t. t; rate = refl; lanes = λ l. l }
+kept s [] = record { rate = refl; lanes = λ l. l }
 kept s (b ∷ m) =
     let p = kept_byte s b in
     let q = kept (absorbed_byte s b) m in
-    record { taking = λ t. q.taking (p.taking t); rate = q.rate ∙ p.rate; lanes = λ l. q.lanes (p.lanes l) }
-
-pub taking_absorbed : (s : Sponge) (m : Bytes) → Taking s → Taking (absorbed s m)
-taking_absorbed s m = (kept s m).taking
-
--- a sponge that has taken in m, as the next method asks for it
-pub and_taking : (s t : Sponge) (m : Bytes) → Taking s → t ≡ absorbed s m → (t ≡ absorbed s m) × Taking t
-and_taking s t m h e = (e, rw e (taking_absorbed s m h))
+    record { rate = q.rate ∙ p.rate; lanes = λ l. q.lanes (p.lanes l) }
 
 pub rate_absorbed : (s : Sponge) (m : Bytes) → (absorbed s m).rate ≡ s.rate
 rate_absorbed s m = (kept s m).rate
 
 pub length-absorbed : (s : Sponge) (m : Bytes) → length s.lanes ≡ 25 → length (absorbed s m).lanes ≡ 25
 length-absorbed s m = (kept s m).lanes
-
-giving_passed : (s : Sponge) → Giving s → Giving (passed (ready s))
-giving_passed s g = go (eqb s.at s.rate) refl
-  where
-    go : (t : Bool) → eqb s.at s.rate ≡ t → Giving (passed (ready s))
-    go true e =
-        rw (ready_spent s.rate s.lanes s.at (eqb-true _ _ e), passed-one)
-        (record { rated = g.rated; within = omega (arith, g.rated.some) })
-    go false e =
-        let n = eqb-false _ _ e in
-        rw (ready-more s.rate s.lanes s.at n, passed-one) (record { rated = g.rated; within = omega (arith, g.within) })
-
-pub giving_squeezed : (s : Sponge) (n : ℕ) → Giving s → Giving (squeezed s n)
-unfolding squeezed
-giving_squeezed s zero g = g
-giving_squeezed s (suc n) g = giving_squeezed (passed (ready s)) n (giving_passed s g)
-
--- a sponge that has given n bytes, as the next method asks for it
-pub giving_is : (s t : Sponge) (n : ℕ) → Giving s → t ≡ squeezed s n → Giving t
-giving_is s t n h e = rw e (giving_squeezed s n h)

@@ -5,15 +5,15 @@ use Prim.Native.Nat.{ℕ, zero, suc, ◌+◌, ◌-◌, ◌*◌, ◌/◌, ◌%◌
 use native.Mathlib.Omega.{arith}
 use native.Mathlib.Nat.{zero-add, suc-add, add-zero, zero-mul, mul-one, mul_assoc, mod-eq_of_lt, div-one}
 use lib.Bits.{bit_xor, xor_comm, xor_zero_r, xor_block, xor_shifted}
-use lib.ListN.{length, get_or, set, take, replicate, length-set}
+use lib.ListN.{length, get_or, set, take, drop, replicate, length-set}
 use lib.Pow.{pow_pos, pow-add, mod-pow-add, shr-shr, shr_lt}
-use lib.Seq.{set-set, set-get_or, get_or-set_same, lt-length-set}
+use lib.Seq.{set-set, set-get_or, get_or-set_same, lt-length-set, take-add, drop-cons, drop-drop, length-take-le}
+use borrow.Rule.Slice.PartMut.{put_mid}
 use Rattle.keccak.specs.Lanes.{Lanes}
 use Rattle.keccak.proofs.LaneBitsLaws.{shl-mod}
-use Rattle.slices.specs.Slices.{Bytes, part, put}
-use Rattle.slices.proofs.SliceLaws.{put-none, put-put, length-put}
+use Rattle.slices.specs.Slices.{Bytes, part, put, over}
+use Rattle.slices.proofs.SliceLaws.{over_none, over-put, over-whole}
 use Rattle.shake.specs.Shake.{octets, byte_at, bytes_at, byte_added, added}
-use Rattle.shake.proofs.PartLaws.{length_part, part-append}
 use Rattle.shake.proofs.OctetsLaws.{bit_xor_assoc, octets-append, length-octets}
 
 -- ---- bytes added
@@ -21,14 +21,6 @@ use Rattle.shake.proofs.OctetsLaws.{bit_xor_assoc, octets-append, length-octets}
 pub length-byte_added : (a : Lanes) (j b : ℕ) → length (byte_added a j b) ≡ length a
 unfolding byte_added
 length-byte_added a j b = length-set a (j / 8) _
-
-pub length-added : (a : Lanes) (j : ℕ) (p : Bytes) → length (added a j p) ≡ length a
-unfolding added
-length-added a j [] = refl
-length-added a j (b ∷ p) = length-added (byte_added a j b) (j + 1) p ∙ length-byte_added a j b
-
-pub length_is_added : (a b : Lanes) (j : ℕ) (p : Bytes) → b ≡ added a j p → length a ≡ 25 → length b ≡ 25
-length_is_added a b j p e l = ap length e ∙ length-added a j p ∙ l
 
 pub added_none : (a : Lanes) (j : ℕ) → a ≡ added a j []
 unfolding added
@@ -45,22 +37,27 @@ added-append a j (b ∷ p) q =
     let e : j + 1 + length p ≡ j + suc (length p) = omega arith in
     added-append (byte_added a j b) (j + 1) p q ∙ ap (λ (i : ℕ). added (added (byte_added a j b) (j + 1) p) i q) e
 
--- a part of s, and the part behind it
-pub added-part : (a b : Lanes) (j : ℕ) (s : Bytes) (i m n : ℕ) (p : Bytes) → i + m ≤ length s → b ≡ added a j (part s i m) → p ≡ part s (i + m) n
-    → added b (j + m) p ≡ added a j (part s i (m + n))
-added-part a b j s i m n p h e f =
-    let l = length_part s i m h in
+-- the first m bytes of s, and n behind them
+added-more : (a b : Lanes) (j : ℕ) (s : Bytes) (m n : ℕ) (p : Bytes) → m ≤ length s → b ≡ added a j (take m s) → p ≡ part s m n
+    → added b (j + m) p ≡ added a j (take (m + n) s)
+added-more a b j s m n p h e f =
     ap₂ (λ (x : Lanes) (q : Bytes). added x (j + m) q) e f
-    ∙ ap (λ (k : ℕ). added (added a j (part s i m)) (j + k) (part s (i + m) n)) (sym l)
-    ∙ sym (added-append a j (part s i m) (part s (i + m) n))
-    ∙ ap (added a j) (sym (part-append s i m n))
+    ∙ ap (λ (k : ℕ). added (added a j (take m s)) (j + k) (part s m n)) (sym (length-take-le m s h))
+    ∙ sym (added-append a j (take m s) (part s m n))
+    ∙ ap (added a j) (sym (take-add m n s))
 
--- both parts together
-pub added_both : (a b d : Lanes) (j : ℕ) (s : Bytes) (i m n : ℕ) → m ≤ n → i + n ≤ length s → b ≡ added a j (part s i m)
-    → d ≡ added b (j + m) (part s (i + m) (n - m)) → d ≡ added a j (part s i n)
-added_both a b d j s i m n l h e f =
-    let z : m + (n - m) ≡ n = omega arith in
-    f ∙ added-part a b j s i m (n - m) (part s (i + m) (n - m)) (omega arith) e refl ∙ ap (λ (k : ℕ). added a j (part s i k)) z
+-- one word of s more
+pub added-word : (a b d : Lanes) (j : ℕ) (s : Bytes) (q w : ℕ) → 8 * q ≤ length s → b ≡ added a j (take (8 * q) s) → octets 8 w ≡ part s (8 * q) 8
+    → d ≡ added b (j + 8 * q) (octets 8 w) → d ≡ added a j (take (8 * (q + 1)) s)
+added-word a b d j s q w h e f g =
+    let z : 8 * q + 8 ≡ 8 * (q + 1) = omega arith in
+    g ∙ added-more a b j s (8 * q) 8 (octets 8 w) h e f ∙ ap (λ (n : ℕ). added a j (take n s)) z
+
+-- one byte
+pub added-byte : (a b d : Lanes) (j : ℕ) (s : Bytes) (m : ℕ) → m < length s → b ≡ added a j (take m s)
+    → d ≡ byte_added b (j + m) (get_or s m 0) → d ≡ added a j (take (m + 1) s)
+added-byte a b d j s m h e g =
+    g ∙ sym (added-one b (j + m) (get_or s m 0)) ∙ added-more a b j s m 1 (get_or s m 0 ∷ []) (omega arith) e (sym (ap (take 1) (drop-cons s m 0 h)))
 
 byte_added_zero : (a : Lanes) (j : ℕ) → byte_added a j 0 ≡ a
 unfolding byte_added
@@ -200,41 +197,37 @@ bytes_at-lane a k t (suc n) h =
     (ap (λ (j : ℕ). bytes_at a j n) nx ∙ bytes_at-lane a k (t + 1) n (omega arith)
     ∙ ap (octets n) (sym (shr-shr x (8 * t) 8 ∙ ap (λ (j : ℕ). x / 2 ^ j) e)))
 
--- the eight bytes of the lane q behind that of byte j, which starts a lane
-pub bytes_at-word : (a : Lanes) (j q : ℕ) → j % 8 ≡ 0 → octets 8 (get_or a (j / 8 + q) 0) ≡ bytes_at a (j + 8 * q) 8
-bytes_at-word a j q h =
-    let k = j / 8 + q in
-    let z : 8 * k + 0 ≡ j + 8 * q = omega arith in
+-- the eight bytes of a lane
+pub bytes_at-word : (a : Lanes) (k : ℕ) → octets 8 (get_or a k 0) ≡ bytes_at a (8 * k) 8
+bytes_at-word a k =
+    let z : 8 * k + 0 ≡ 8 * k = omega arith in
     sym (ap (λ (i : ℕ). bytes_at a i 8) (sym z) ∙ bytes_at-lane a k 0 8 (omega arith) ∙ ap (octets 8) (div-one (get_or a k 0)))
 
 pub bytes_at-one : (a : Lanes) (j b : ℕ) → b ≡ byte_at a j → b ∷ [] ≡ bytes_at a j 1
 unfolding bytes_at
 bytes_at-one a j b e = ap (λ (x : ℕ). x ∷ []) e
 
--- ---- bytes stored
-
-pub put-bytes_at-none : (s : Bytes) (i : ℕ) (a : Lanes) (j : ℕ) → s ≡ put s i (bytes_at a j 0)
+-- none of them stored
+pub over-bytes_at-none : (s : Bytes) (a : Lanes) (j : ℕ) → s ≡ over (bytes_at a j 0) s
 unfolding bytes_at
-put-bytes_at-none s i a j = sym (put-none s i)
+over-bytes_at-none s a j = over_none s
 
--- m bytes of the state, and the n bytes behind them
-pub put-bytes_at : (s t : Bytes) (a : Lanes) (j i m n : ℕ) (p : Bytes) → i + (m + n) ≤ length s → t ≡ put s i (bytes_at a j m)
-    → p ≡ bytes_at a (j + m) n
-    → put t (i + m) p ≡ put s i (bytes_at a j (m + n))
-put-bytes_at s t a j i m n p h e f =
+-- more of them stored behind the first m
+pub over-bytes_at : (s t : Bytes) (a : Lanes) (j m n : ℕ) (p : Bytes) → m + n ≤ length s → t ≡ over (bytes_at a j m) s → p ≡ bytes_at a (j + m) n
+    → put t m p ≡ over (bytes_at a j (m + n)) s
+over-bytes_at s t a j m n p h e f =
     let l = length-bytes_at a j m in
     let k = length-bytes_at a (j + m) n in
-    ap₂ (λ (x q : Bytes). put x (i + m) q) e f
-    ∙ ap (λ (z : ℕ). put (put s i (bytes_at a j m)) (i + z) (bytes_at a (j + m) n)) (sym l)
-    ∙ put-put s i (bytes_at a j m) (bytes_at a (j + m) n) (omega (arith, l, k))
-    ∙ ap (put s i) (sym (bytes_at-append a j m n))
+    ap₂ (λ (x q : Bytes). put x m q) e f
+    ∙ ap (λ (z : ℕ). put (over (bytes_at a j m) s) z (bytes_at a (j + m) n)) (sym l)
+    ∙ over-put (bytes_at a j m) (bytes_at a (j + m) n) s (omega (arith, l, k))
+    ∙ ap (λ (q : Bytes). over q s) (sym (bytes_at-append a j m n))
 
--- both together
-pub put_both : (s t u : Bytes) (a : Lanes) (j i m n : ℕ) → m ≤ n → i + n ≤ length s → t ≡ put s i (bytes_at a j m)
-    → u ≡ put t (i + m) (bytes_at a (j + m) (n - m)) → u ≡ put s i (bytes_at a j n)
-put_both s t u a j i m n l h e f =
-    let z : m + (n - m) ≡ n = omega arith in
-    f ∙ put-bytes_at s t a j i m (n - m) (bytes_at a (j + m) (n - m)) (omega arith) e refl ∙ ap (λ (k : ℕ). put s i (bytes_at a j k)) z
+-- a whole slice of them
+pub over-bytes_at-all : (s t : Bytes) (a : Lanes) (j n : ℕ) → n ≡ length s → t ≡ over (bytes_at a j n) s → t ≡ bytes_at a j n
+over-bytes_at-all s t a j n h e = e ∙ over-whole (bytes_at a j n) s (length-bytes_at a j n ∙ h)
 
-pub length-put-bytes_at : (s t : Bytes) (a : Lanes) (j i n : ℕ) → i + n ≤ length s → t ≡ put s i (bytes_at a j n) → length t ≡ length s
-length-put-bytes_at s t a j i n h e = ap length e ∙ length-put s i (bytes_at a j n) (omega (arith, length-bytes_at a j n))
+-- what is written to the part of s that begins at i
+pub put_mid-put : (s p : Bytes) (i k : ℕ) → length p ≡ k → put_mid i k s p ≡ put s i p
+unfolding put
+put_mid-put s p i k h = ap (λ (x : Bytes). take i s ++ (p ++ x)) (drop-drop k i s ∙ ap (λ (n : ℕ). drop (i + n) s) (sym h))

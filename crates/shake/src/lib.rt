@@ -3,8 +3,8 @@
 
 mod state;
 
-ghost use Rattle.std.specs.Prelude.{◌≡◌, [], ◌∷◌, ◌/◌, ◌%◌, ◌<◌, min, length};
-ghost use Rattle.shake.specs.Sponge.{sponge, started, absorbed_byte, absorbed, padded, ready, given, squeezed, Rate, Taking, Giving};
+ghost use Rattle.std.specs.Prelude.{◌≡◌, [], ◌∷◌, ◌/◌, ◌%◌, ◌<◌, length};
+ghost use Rattle.shake.specs.Sponge.{started, absorbed, padded, ready, given, squeezed, Rate, Taking, Giving};
 
 // The state, the place in its block, and the length of a block in bytes.
 #[derive(Clone, Copy)]
@@ -14,117 +14,49 @@ pub struct Sponge {
     rate: usize,
 }
 
-// s is taken in from the place at on; the result is the place after it. Each block that gets full is permuted.
-fn take_in(a: &mut [u64; 25], rate: usize, at: usize, s: &[u8]) -> usize
-    requires { (length a.old ≡ 25) × Taking (sponge rate a.old at) }
-    ensures { sponge rate a.new result ≡ absorbed (sponge rate a.old at) s.now }
-{
-    let mut j = at;
-    let mut i: usize = 0;
-    while rate - j <= s.len() - i {
-        let n = rate - j;
-        state::add_part(a, j, s, i, n);
-        keccak::permute(a);
-        i += n;
-        j = 0;
-    }
-    let n = s.len() - i;
-    state::add_part(a, j, s, i, n);
-    j + n
-}
-
-// b is taken in at the place at; the result is the place after it.
-fn take_byte(a: &mut [u64; 25], rate: usize, at: usize, b: u8) -> usize
-    requires { Taking (sponge rate a.old at) }
-    ensures { sponge rate a.new result ≡ absorbed_byte (sponge rate a.old at) b }
-{
-    state::add_byte(a, at, b);
-    if at + 1 == rate {
-        keccak::permute(a);
-        return 0;
-    }
-    at + 1
-}
-
-// The message ends at the place at: there the suffix and the first bit of the padding, its last bit at the end of the block.
-fn close(a: &mut [u64; 25], rate: usize, at: usize)
-    requires { Taking (sponge rate a.old at) }
-    ensures { sponge rate a.new 0 ≡ padded (sponge rate a.old at) }
-{
-    state::add_byte(a, at, 0x1F);
-    state::add_byte(a, rate - 1, 0x80);
-    keccak::permute(a);
-}
-
-// The smaller of two numbers.
-fn smaller(x: usize, y: usize) -> usize
-    ensures { result ≡ min x y }
-{
-    if x < y { x } else { y }
-}
-
-// The place of the next byte to give: where the block is spent, the next one is made.
-fn refill(a: &mut [u64; 25], rate: usize, j: usize) -> usize
-    requires { Giving (sponge rate a.old j) }
-    ensures { (sponge rate a.new result ≡ ready (sponge rate a.old j)) × (result < rate) }
-{
-    if j == rate {
-        keccak::permute(a);
-        return 0;
-    }
-    j
-}
-
-// out is filled from the place at on; the result is the place after it.
-fn give(a: &mut [u64; 25], rate: usize, at: usize, out: &mut [u8]) -> usize
-    requires { Giving (sponge rate a.old at) }
-    ensures { (sponge rate a.new result ≡ squeezed (sponge rate a.old at) (length out.old))
-        × (out.new ≡ given (sponge rate a.old at) (length out.old)) }
-{
-    let mut j = at;
-    let mut i: usize = 0;
-    while i < out.len() {
-        let k = refill(a, rate, j);
-        let n = smaller(rate - k, out.len() - i);
-        state::give_part(a, k, out, i, n);
-        j = k + n;
-        i += n;
-    }
-    j
-}
-
 impl Sponge {
     // Nothing taken in. SHAKE128 has the rate 168, SHAKE256 the rate 136.
+    #[tactic(auto, unfolding(crate::specs::Sponge::started))]
     pub fn new(rate: usize) -> Self
         requires { Rate rate }
         ensures { (result ≡ started rate) × Taking result }
     {
         Self {
-            lanes: [0u64; 25],
+            lanes: [0; 25],
             at: 0,
             rate,
         }
     }
 
-    // The bytes of s are taken in.
+    // The bytes of s are taken in. Each block that gets full is permuted.
     pub fn absorb(mut self, s: &[u8]) -> Self
         requires { Taking self }
         ensures { (result ≡ absorbed self s.now) × Taking result }
     {
-        let rate = self.rate;
-        let at = self.at;
-        self.at = take_in(&mut self.lanes, rate, at, s);
+        let mut left = s;
+        while let Some((block, rest)) = left.split_at_checked(self.rate - self.at) {
+            state::add_part(&mut self.lanes, self.at, block);
+            keccak::permute(&mut self.lanes);
+            self.at = 0;
+            left = rest;
+        }
+        state::add_part(&mut self.lanes, self.at, left);
+        self.at += left.len();
         self
     }
 
-    // One byte is taken in.
+    // One byte is taken in. Not by absorb, which takes longer for so few bytes.
+    #[tactic(auto, unfolding(crate::specs::Sponge::absorbed, crate::specs::Sponge::absorbed_byte))]
     pub fn absorb_byte(mut self, b: u8) -> Self
         requires { Taking self }
         ensures { (result ≡ absorbed self (b ∷ [])) × Taking result }
     {
-        let rate = self.rate;
-        let at = self.at;
-        self.at = take_byte(&mut self.lanes, rate, at, b);
+        state::add_byte(&mut self.lanes, self.at, b);
+        self.at += 1;
+        if self.at == self.rate {
+            keccak::permute(&mut self.lanes);
+            self.at = 0;
+        }
         self
     }
 
@@ -133,31 +65,48 @@ impl Sponge {
         requires { Taking self }
         ensures { (result ≡ absorbed self (x % 256 ∷ x / 256 ∷ [])) × Taking result }
     {
-        let low = (x % 256) as u8;
-        let high = (x / 256) as u8;
+        let [low, high] = x.to_le_bytes();
         self.absorb_byte(low).absorb_byte(high)
     }
 
-    // The message is ended.
+    // The message is ended: here the suffix and the first bit of the padding, its last bit at the end of the block.
+    #[tactic(auto, unfolding(crate::specs::Sponge::padded))]
     pub fn pad(mut self) -> Self
         requires { Taking self }
         ensures { (result ≡ padded self) × Giving result }
     {
-        let rate = self.rate;
-        let at = self.at;
-        close(&mut self.lanes, rate, at);
+        state::add_byte(&mut self.lanes, self.at, 0x1F);
+        state::add_byte(&mut self.lanes, self.rate - 1, 0x80);
+        keccak::permute(&mut self.lanes);
         self.at = 0;
         self
     }
 
-    // out is filled with the next bytes.
+    // There is a byte to give: where the block is spent, the next one is made.
+    #[tactic(auto, unfolding(crate::specs::Sponge::ready))]
+    fn refill(&mut self)
+        requires { Giving self.old }
+        ensures { (self.new ≡ ready self.old) × (self.new.at < self.new.rate) × Rate self.new.rate }
+    {
+        if self.at == self.rate {
+            keccak::permute(&mut self.lanes);
+            self.at = 0;
+        }
+    }
+
+    // out is filled with the next bytes. A turn gives what is left of a block, so the place in out is no count of turns.
     pub fn squeeze(mut self, out: &mut [u8]) -> Self
         requires { Giving self }
         ensures { (result ≡ squeezed self (length out.old)) × (out.new ≡ given self (length out.old)) × Giving result }
     {
-        let rate = self.rate;
-        let at = self.at;
-        self.at = give(&mut self.lanes, rate, at, out);
+        let mut i: usize = 0;
+        while i < out.len() {
+            self.refill();
+            let n = (self.rate - self.at).min(out.len() - i);
+            state::give_part(&self.lanes, self.at, &mut out[i..i + n]);
+            self.at += n;
+            i += n;
+        }
         self
     }
 }

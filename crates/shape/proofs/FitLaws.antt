@@ -14,8 +14,7 @@ use Rattle.slices.specs.Slices.{Bytes, part}
 use Rattle.sets.specs.declared.Set.{Set}
 use Rattle.sets.specs.Sets.{IsSet}
 use Rattle.sets.specs.Lengths.{w, seed_width, transcript_length, salt_length, round_least, unpacked_length, transcript_bits}
-use Rattle.answers.specs.declared.Refusal.TheVariants.{Fine}
-use Rattle.answers.specs.Answers.{first}
+use Rattle.answers.specs.Answers.{Fine, first}
 use Rattle.answers.specs.Outcome.{gives}
 use Rattle.shape.specs.Fields.{all, is_zero, zero_padded, clean_slots}
 use Rattle.shape.specs.Header.{is_value, AreValues}

@@ -6,14 +6,14 @@ use Prim.Native.Nat.{ℕ, ◌+◌, ◌*◌, ◌≤◌, ◌<◌}
 use native.Mathlib.Omega.{arith}
 use lib.ListN.{length, drop}
 use borrow.Author.Tests.{lt-ltb, le-ltb, ltb-false, eqb-true, eq-eqb, ne_eqb, not-false}
+use Rattle.std.proofs.Common.{Ok, Err}
 use Rattle.slices.specs.Slices.{Bytes}
 use Rattle.sets.specs.declared.Set.{Set}
 use Rattle.sets.specs.Lengths.{salt_length, header_length, unpacked_length}
 use Rattle.answers.specs.declared.Refusal.{Refusal}
-use Rattle.answers.specs.declared.Refusal.TheVariants.{Fine, Length, Header, Padding}
-use Rattle.answers.specs.Answers.{fine, Check, when, first}
-use Rattle.answers.specs.Outcome.{Outcome, refused, gives, unless}
-use Rattle.answers.proofs.AnswersLaws.{fine_is}
+use Rattle.answers.specs.declared.Refusal.TheVariants.{Length, Header, Padding}
+use Rattle.answers.specs.Answers.{Checked, Fine, Check, when, first}
+use Rattle.answers.specs.Outcome.{Outcome, refused, gives, after, unless}
 use Rattle.answers.proofs.OutcomeLaws.{unless-given}
 use Rattle.shape.specs.Fields.{all, zero_padded, clean, clean_slots}
 use Rattle.shape.specs.Header.{values, is_value}
@@ -27,10 +27,10 @@ pub no : {A : Type 0} → true ≡ false → A
 no e = let z : ◌≡◌ {A = ℕ} 0 1 = ap (λ (b : Bool). cond b 0 1) e in absurd (omega arith)
 
 -- where nothing is refused, the first check does not hold and the others refuse nothing
-pub passed : (b : Bool) (r : Refusal) (ks : List Check) → fine r ≡ false → first (when b r ∷ ks) ≡ Fine → (b ≡ false) × (first ks ≡ Fine)
+pub passed : (b : Bool) (r : Refusal) (ks : List Check) → first (when b r ∷ ks) ≡ Fine → (b ≡ false) × (first ks ≡ Fine)
 unfolding first
-passed true r ks f e = no (ap fine (sym e) ∙ f)
-passed false r ks f e = (refl, e)
+passed true r ks e = cc
+passed false r ks e = (refl, e)
 
 gives_same : {a b : Bytes} → gives a ≡ gives b → a ≡ b
 gives_same e = cc
@@ -38,20 +38,20 @@ gives_same e = cc
 never : {A : Type 0} {r : Refusal} {b : Bytes} → refused r ≡ gives b → A
 never e = let z : ◌≡◌ {A = ℕ} 0 1 = cc in absurd (omega arith)
 
+given_after : (c : Checked) (vs us : Bytes) → after c vs ≡ gives us → (c ≡ Fine) × (vs ≡ us)
+given_after (Ok done) vs us e = (refl, gives_same e)
+given_after (Err r) vs us e = never e
+
 -- bytes are given where nothing is refused
 pub given : (ks : List Check) (vs us : Bytes) → unless ks vs ≡ gives us → (first ks ≡ Fine) × (vs ≡ us)
 unfolding unless
-given ks vs us e = go (fine (first ks)) refl e
-  where
-    go : (b : Bool) → fine (first ks) ≡ b → cond b (gives vs) (refused (first ks)) ≡ gives us → (first ks ≡ Fine) × (vs ≡ us)
-    go true f g = (fine_is (first ks) f, gives_same g)
-    go false f g = never g
+given ks vs us e = given_after (first ks) vs us e
 
 pub one_outcome : (o : Outcome) (vs us : Bytes) → o ≡ gives vs → o ≡ gives us → vs ≡ us
 one_outcome o vs us e g = cc
 
 pub unless-fine : (ks : List Check) (vs us : Bytes) → first ks ≡ Fine → vs ≡ us → unless ks vs ≡ gives us
-unless-fine ks vs us e g = unless-given ks vs Fine e refl ∙ ap gives g
+unless-fine ks vs us e g = unless-given ks vs e ∙ ap gives g
 
 or_left : (a b : Bool) → (a || b) ≡ false → a ≡ false
 or_left true b e = no e
@@ -74,10 +74,10 @@ pub record Sound (p : Set) (s : Bytes) : Type 0 where
 pub sound : (p : Set) (s : Bytes) → first (read_checks p s) ≡ Fine → Sound p s
 unfolding read_checks header_wrong padding_wrong
 sound p s e0 =
-    let (a, e1) = passed _ _ _ refl e0 in
-    let (b, e2) = passed _ _ _ refl e1 in
-    let (c, e3) = passed _ _ _ refl e2 in
-    let (d, _) = passed _ _ _ refl e3 in
+    let (a, e1) = passed _ _ _ e0 in
+    let (b, e2) = passed _ _ _ e1 in
+    let (c, e3) = passed _ _ _ e2 in
+    let (d, _) = passed _ _ _ e3 in
     record {
       long = ltb-false _ _ a;
       valued = not-false _ (or_left (not (all is_value (values p s))) (not (zero_padded (2 * p.t) s)) b);
@@ -92,21 +92,21 @@ sound_passes p s h = rw (le-ltb _ _ h.long, h.valued, h.header_padded, eq-eqb _ 
 
 -- how far the checks come
 module _ (p : Set) (s : Bytes) where
-  pub read_short : length s < header_length p + salt_length → first (read_checks p s) ≡ Length
+  pub read_short : length s < header_length p + salt_length → first (read_checks p s) ≡ Err Length
   unfolding read_checks first
   read_short a = rw (lt-ltb _ _ a)
 
   module _ (a : header_length p + salt_length ≤ length s) where
-    pub read_header : header_wrong p s ≡ true → first (read_checks p s) ≡ Header
+    pub read_header : header_wrong p s ≡ true → first (read_checks p s) ≡ Err Header
     unfolding read_checks first
     read_header b = rw (le-ltb _ _ a, b)
 
-    pub read_length : header_wrong p s ≡ false → (length s ≡ signature_length p (values p s) → ⊥) → first (read_checks p s) ≡ Length
+    pub read_length : header_wrong p s ≡ false → (length s ≡ signature_length p (values p s) → ⊥) → first (read_checks p s) ≡ Err Length
     unfolding read_checks first
     read_length b c = rw (le-ltb _ _ a, b, ne_eqb _ _ c)
 
     pub read-padding : header_wrong p s ≡ false → length s ≡ signature_length p (values p s) → padding_wrong p s ≡ true
-        → first (read_checks p s) ≡ Padding
+        → first (read_checks p s) ≡ Err Padding
     unfolding read_checks first
     read-padding b c d = rw (le-ltb _ _ a, b, eq-eqb _ _ c, d)
 
@@ -126,9 +126,9 @@ pub record Whole (p : Set) (x : Bytes) : Type 0 where
 pub whole : (p : Set) (x : Bytes) → first (write_checks p x) ≡ Fine → Whole p x
 unfolding write_checks value_wrong slot_wrong
 whole p x e0 =
-    let (a, e1) = passed _ _ _ refl e0 in
-    let (b, e2) = passed _ _ _ refl e1 in
-    let (c, _) = passed _ _ _ refl e2 in
+    let (a, e1) = passed _ _ _ e0 in
+    let (b, e2) = passed _ _ _ e1 in
+    let (c, _) = passed _ _ _ e2 in
     record {
       exact = eqb-true _ _ (not-false _ a);
       valued = not-false _ b;
@@ -140,16 +140,16 @@ unfolding write_checks value_wrong slot_wrong first
 whole_passes p x h = rw (eq-eqb _ _ h.exact, h.valued, h.cleaned)
 
 module _ (p : Set) (x : Bytes) where
-  pub write-length : (length x ≡ unpacked_length p → ⊥) → first (write_checks p x) ≡ Length
+  pub write-length : (length x ≡ unpacked_length p → ⊥) → first (write_checks p x) ≡ Err Length
   unfolding write_checks first
   write-length a = rw (ne_eqb _ _ a)
 
   module _ (a : length x ≡ unpacked_length p) where
-    pub write-value : value_wrong p x ≡ true → first (write_checks p x) ≡ Header
+    pub write-value : value_wrong p x ≡ true → first (write_checks p x) ≡ Err Header
     unfolding write_checks first
     write-value b = rw (eq-eqb _ _ a, b)
 
-    pub write-slot : value_wrong p x ≡ false → slot_wrong p x ≡ true → first (write_checks p x) ≡ Padding
+    pub write-slot : value_wrong p x ≡ false → slot_wrong p x ≡ true → first (write_checks p x) ≡ Err Padding
     unfolding write_checks first
     write-slot b c = rw (eq-eqb _ _ a, b, c)
 

@@ -1,9 +1,8 @@
 -- Reading a signature gives its unpacked form, writing an unpacked form gives its signature, or each refuses: the first
 -- check that holds is answered.
-use Rattle.std.specs.Prelude.{Bool, not, ◌||◌, List, [], ◌∷◌, ℕ, ◌+◌, ◌*◌, length, drop}
+use Rattle.std.specs.Prelude.{Bool, not, ◌||◌, List, [], ◌∷◌, ℕ, ◌+◌, ◌*◌, length, drop, Option}
 use Rattle.slices.specs.Slices.{Bytes}
 use Rattle.sets.specs.declared.Set.{Set}
-use Rattle.sets.specs.declared.Chosen.{Chosen}
 use Rattle.sets.specs.Sets.{numbered}
 use Rattle.sets.specs.Lengths.{salt_length, header_length, longest, unpacked_length}
 use Rattle.answers.specs.declared.Refusal.TheVariants.{Room, Length, Header, Padding}
@@ -65,11 +64,11 @@ unfoldable pub write_into : Set → (x : Bytes) → (output : ℕ) → Outcome
 write_into set x output = behind (when (too_short (longest set) output) Room) (writing set x)
 
 -- reading as a call: 1 if there is no such set, then as above
-unfoldable pub read : Chosen → (s : Bytes) → (output : ℕ) → Outcome
+unfoldable pub read : Option Set → (s : Bytes) → (output : ℕ) → Outcome
 read c s output = with_set c (λ set. read_into set s output)
 
 -- writing as a call: likewise
-unfoldable pub write : Chosen → (x : Bytes) → (output : ℕ) → Outcome
+unfoldable pub write : Option Set → (x : Bytes) → (output : ℕ) → Outcome
 write c x output = with_set c (λ set. write_into set x output)
 
 -- what picnic_read promises: its answer, and its output from what it held before

@@ -1,21 +1,18 @@
 -- How the two calls meet their promises.
-use mathlib.Core.Path.{◌≡◌, sym, ◌∙◌}
-use mathlib.Core.Bool.{Bool, true, false}
+use mathlib.Core.Path.{◌≡◌, ◌∙◌}
 use Prim.Native.Nat.{ℕ, ◌≤◌, ◌<◌}
 use native.Mathlib.Omega.{arith}
 use lib.ListN.{length}
 use borrow.Author.Tests.{lt-ltb, le-ltb}
+use Rattle.std.proofs.Common.{Option, Some, None, Err}
 use Rattle.slices.specs.Slices.{Bytes}
 use Rattle.sets.specs.declared.Set.{Set}
-use Rattle.sets.specs.declared.Chosen.{Chosen}
-use Rattle.sets.specs.declared.Chosen.TheVariants.{Known, Unknown}
 use Rattle.sets.specs.Sets.{IsSet}
 use Rattle.sets.specs.Lengths.{longest, unpacked_length}
 use Rattle.answers.specs.declared.Refusal.{Refusal}
-use Rattle.answers.specs.declared.Refusal.TheVariants.{Fine, NoSet, Room}
-use Rattle.answers.specs.Answers.{fine, first}
+use Rattle.answers.specs.declared.Refusal.TheVariants.{NoSet, Room}
+use Rattle.answers.specs.Answers.{Fine, first}
 use Rattle.answers.specs.Outcome.{refused, gives, Promise}
-use Rattle.answers.proofs.AnswersLaws.{fine_is}
 use Rattle.answers.proofs.OutcomeLaws.{set_unknown, set_known, unless-refused, unless-given, behind-holds, behind_passes}
 use Rattle.shape.specs.Header.{values, AreValues}
 use Rattle.shape.specs.Rounds.{signature_length}
@@ -33,38 +30,38 @@ module _ (p : Set) (s : Bytes) (n : ℕ) where
   unfolding read_into
   read_small h = behind-holds _ Room _ (lt-ltb _ _ h)
 
-  pub read-refused : unpacked_length p ≤ n → (r : Refusal) → r ≡ first (read_checks p s) → fine r ≡ false → read_into p s n ≡ refused r
+  pub read-refused : unpacked_length p ≤ n → (r : Refusal) → first (read_checks p s) ≡ Err r → read_into p s n ≡ refused r
   unfolding read_into reading
-  read-refused h r e f = behind_passes _ Room _ (le-ltb _ _ h) ∙ unless-refused _ _ r (sym e) f
+  read-refused h r e = behind_passes _ Room _ (le-ltb _ _ h) ∙ unless-refused _ _ r e
 
-  pub read_done : unpacked_length p ≤ n → (r : Refusal) → r ≡ first (read_checks p s) → fine r ≡ true → read_into p s n ≡ gives (form p s)
+  pub read_done : unpacked_length p ≤ n → first (read_checks p s) ≡ Fine → read_into p s n ≡ gives (form p s)
   unfolding read_into reading
-  read_done h r e f = behind_passes _ Room _ (le-ltb _ _ h) ∙ unless-given _ _ r (sym e) f
+  read_done h e = behind_passes _ Room _ (le-ltb _ _ h) ∙ unless-given _ _ e
 
   pub write-small : n < longest p → write_into p s n ≡ refused Room
   unfolding write_into
   write-small h = behind-holds _ Room _ (lt-ltb _ _ h)
 
-  pub write-refused : longest p ≤ n → (r : Refusal) → r ≡ first (write_checks p s) → fine r ≡ false → write_into p s n ≡ refused r
+  pub write-refused : longest p ≤ n → (r : Refusal) → first (write_checks p s) ≡ Err r → write_into p s n ≡ refused r
   unfolding write_into writing
-  write-refused h r e f = behind_passes _ Room _ (le-ltb _ _ h) ∙ unless-refused _ _ r (sym e) f
+  write-refused h r e = behind_passes _ Room _ (le-ltb _ _ h) ∙ unless-refused _ _ r e
 
-  pub write_done : longest p ≤ n → (r : Refusal) → r ≡ first (write_checks p s) → fine r ≡ true → write_into p s n ≡ gives (signature p s)
+  pub write_done : longest p ≤ n → first (write_checks p s) ≡ Fine → write_into p s n ≡ gives (signature p s)
   unfolding write_into writing
-  write_done h r e f = behind_passes _ Room _ (le-ltb _ _ h) ∙ unless-given _ _ r (sym e) f
+  write_done h e = behind_passes _ Room _ (le-ltb _ _ h) ∙ unless-given _ _ e
 
 -- ---- for the set of a number
 
-module _ (c : Chosen) (s : Bytes) (n : ℕ) where
-  pub read_unknown : c ≡ Unknown → read c s n ≡ refused NoSet
+module _ (c : Option Set) (s : Bytes) (n : ℕ) where
+  pub read_unknown : c ≡ None → read c s n ≡ refused NoSet
   unfolding read
   read_unknown e = set_unknown c _ e
 
-  pub write_unknown : c ≡ Unknown → write c s n ≡ refused NoSet
+  pub write_unknown : c ≡ None → write c s n ≡ refused NoSet
   unfolding write
   write_unknown e = set_unknown c _ e
 
-module _ (c : Chosen) (p : Set) (e : c ≡ Known p) (s : Bytes) (n : ℕ) (out : Bytes) (a : ℕ) (last : Bytes) where
+module _ (c : Option Set) (p : Set) (e : c ≡ Some p) (s : Bytes) (n : ℕ) (out : Bytes) (a : ℕ) (last : Bytes) where
   pub read_known : Promise (read_into p s n) out a last → Promise (read c s n) out a last
   unfolding read
   read_known h = rw (set_known c (λ q. read_into q s n) p e) h
@@ -76,14 +73,8 @@ module _ (c : Chosen) (p : Set) (e : c ≡ Known p) (s : Bytes) (n : ℕ) (out :
 -- ---- what passed its checks
 
 -- a signature that is read has the exact length
-pub read-exact : (p : Set) (s : Bytes) (r : Refusal) (b : Bool) → r ≡ first (read_checks p s) → b ≡ fine r → b ≡ true
-    → length s ≡ signature_length p (values p s)
-read-exact p s r b e f t = (sound p s (sym e ∙ fine_is r (sym f ∙ t))).exact
-
--- a form that is written passes
-pub write-passed : (p : Set) (x : Bytes) (r : Refusal) (b : Bool) → r ≡ first (write_checks p x) → b ≡ fine r → b ≡ true
-    → first (write_checks p x) ≡ Fine
-write-passed p x r b e f t = sym e ∙ fine_is r (sym f ∙ t)
+pub read-exact : (p : Set) (s : Bytes) → first (read_checks p s) ≡ Fine → length s ≡ signature_length p (values p s)
+read-exact p s e = (sound p s e).exact
 
 -- the values of a form that passes are values
 pub whole-values : (p : Set) (x : Bytes) → first (write_checks p x) ≡ Fine → AreValues (values_in p x)

@@ -1,53 +1,49 @@
 -- The tests of an unpacked form, place by place and round by round.
 use mathlib.Core.Path.{◌≡◌, refl, sym, ap, ◌∙◌}
-use mathlib.Core.Bool.{Bool, true, false, not}
-use mathlib.Core.List.{List}
-use Prim.Native.Nat.{ℕ, ◌+◌, ◌≤◌, ◌<◌}
+use mathlib.Core.Bool.{Bool, true, false, not, ◌&&◌, ◌||◌}
+use mathlib.Core.List.{List, [], ◌∷◌}
+use Prim.Native.Nat.{ℕ, zero, suc, ◌+◌, ◌*◌, ◌≤◌, ◌<◌}
 use native.Mathlib.Omega.{arith}
 use lib.Dec.{eqb}
 use lib.ListN.{length, take, drop, get_or}
-use lib.Seq.{drop-drop, get_or-take, take-length, length-take-le}
+use lib.Seq.{drop-drop, get_or-take, take-length}
 use borrow.Author.Tests.{eqb-true, eqb-false}
+use native.Mathlib.Nat.{zero-add}
+use native.Mathlib.Numerals.{add-one}
+use Rattle.std.specs.Bool.{MatchBool}
+use Rattle.std.specs.List.{list_all, list_any, range_with_len, AllWithin, HoldsAt}
+use Rattle.std.proofs.lemmas.List.FromFn.{length-range_with_len, get_or-range_with_len}
 use Rattle.slices.specs.Slices.{Bytes, part}
 use Rattle.bits.specs.Bytes.{width}
 use Rattle.sets.specs.declared.Set.{Set}
 use Rattle.sets.specs.Sets.{IsSet}
 use Rattle.sets.specs.Lengths.{w, salt_length, round_least, round_most, unpacked_length, transcript_bits}
 use Rattle.shape.specs.Fields.{all, is_zero, zero_padded, clean_slots}
-use Rattle.shape.specs.Header.{is_value}
 use Rattle.shape.specs.Rounds.{round_fields, fields}
 use Rattle.shape.specs.Form.{values_in, slot_at}
-use Rattle.shape.specs.Reading.{value_wrong, slot_wrong}
-use Rattle.shape.proofs.PaddingLaws.{all_more, all_fails, padded-whole}
+use Rattle.shape.specs.Reading.{slot_wrong}
+use Rattle.shape.proofs.PaddingLaws.{padded-whole}
 use Rattle.shape.proofs.RoundLaws.{slots_zero, slots_other}
 use Rattle.shape.proofs.RoundTripsProof.{length-values_in}
-use Rattle.shape.proofs.FormLaws.{slot-first, slot-more, slot-within, slots_more, slots_fails}
+use Rattle.shape.proofs.FormLaws.{slot-within, slots_more, slots_fails}
 use Rattle.shape.proofs.FitLaws.{slots_none}
 use Rattle.shape.proofs.SetFacts.{seeds-whole, shares_whole, some-gates, transcript_bits≤}
 
 -- ---- a test of each byte
 
--- the first i bytes pass
-pub record Passed (q : ℕ → Bool) (vs : Bytes) (n i : ℕ) : Type 0 where
-  pub far : i ≤ n
-  pub passed : all q (take i vs) ≡ true
-
-pub passed_none : (q : ℕ → Bool) (vs : Bytes) (n : ℕ) → Passed q vs n 0
+pub every : (q : ℕ → Bool) (vs : Bytes) → list_all q vs ≡ all q vs
 unfolding all
-passed_none q vs n = record { far = omega arith; passed = refl }
+every q [] = refl
+every q (v ∷ vs) = ap (λ (b : Bool). q v && b) (every q vs)
 
-pub passed-more : {q : ℕ → Bool} {vs : Bytes} {n i : ℕ} → Passed q vs n i → n ≤ length vs → i < n → (v : ℕ) → v ≡ get_or vs i 0 → q v ≡ true
-    → Passed q vs n (i + 1)
-passed-more {q} {vs} {n} {i} h l b v e g =
-    record { far = omega arith; passed = all_more q vs i (omega arith) h.passed (ap q (sym e) ∙ g) }
+not_both : (a b : Bool) → (not a || not b) ≡ not (a && b)
+not_both true b = refl
+not_both false b = refl
 
-pub passed_fails : (q : ℕ → Bool) (vs : Bytes) (n i v : ℕ) → n ≤ length vs → i < n → v ≡ get_or vs i 0 → q v ≡ false
-    → all q (take n vs) ≡ false
-passed_fails q vs n i v l b e g =
-    all_fails q (take n vs) i (omega (arith, length-take-le n vs l)) (ap q (get_or-take n vs i 0 b ∙ sym e) ∙ g)
-
-pub passed-all : {q : ℕ → Bool} {vs : Bytes} {n i : ℕ} → Passed q vs n i → n ≤ i → all q (take n vs) ≡ true
-passed-all {q} {vs} {n} {i} h l = let e : n ≡ i = omega (arith, h.far) in ap (λ (k : ℕ). all q (take k vs)) e ∙ h.passed
+pub some_fails : (q : ℕ → Bool) (vs : Bytes) → list_any (λ v. not (q v)) vs ≡ not (all q vs)
+unfolding all
+some_fails q [] = refl
+some_fails q (v ∷ vs) = rw (some_fails q vs) (not_both (q v) (all q vs))
 
 -- ---- a slot
 
@@ -80,44 +76,41 @@ module _ {p : Set} (q : IsSet p) (e at : ℕ) (x : Bytes) (m : ℕ) (em : m ≡ 
 
 -- ---- all slots
 
-pub record Cleaned (p : Set) (x : Bytes) (at k : ℕ) : Type 0 where
-  pub far : k ≤ p.t
-  pub is : at ≡ slot_at p k
-  pub cleaned : clean_slots (fields p (take k (values_in p x))) (drop p.t x) ≡ true
+-- whether slot k is clean, where a slot has so many bytes
+abbrev pub clean_at : Set → Bytes → (most k : ℕ) → Bool
+clean_at p x most k = clean_slots (round_fields p (get_or x k 0)) (drop (p.t + salt_length + k * most) x)
 
-pub cleaned_none : (p : Set) (x : Bytes) (at : ℕ) → at ≡ p.t + salt_length → Cleaned p x at 0
-cleaned_none p x at e = record { far = omega arith; is = e ∙ sym (slot-first p); cleaned = slots_none p (drop p.t x) }
+module _ (p : Set) (x : Bytes) (l : length x ≡ unpacked_length p) (most : ℕ) (e : most ≡ round_most p) where
+  -- a slot lies in the form
+  pub slot_inside : (k : ℕ) → k < p.t → p.t + salt_length + k * most + round_most p ≤ length x
+  slot_inside k h = rw (e, l) (slot-within p k h)
 
-module _ {p : Set} {x : Bytes} {at k : ℕ} (r : Cleaned p x at k) (l : length x ≡ unpacked_length p) where
-  pub cleaned_inside : k < p.t → at + round_most p ≤ length x
-  cleaned_inside h = omega (arith, r.is, slot-within p k h)
+  there : (k : ℕ) → k < p.t → {b : Bool} → clean_at p x most k ≡ b → clean_slots (round_fields p (get_or (values_in p x) k 0)) (drop (slot_at p k) x) ≡ b
+  there k h g = rw (get_or-take p.t x k 0 h, ← e) g
 
-  there : k < p.t → {b : Bool} → b ≡ clean_slots (round_fields p (get_or x k 0)) (drop at x)
-      → clean_slots (round_fields p (get_or (values_in p x) k 0)) (drop (slot_at p k) x) ≡ b
-  there h e = rw (get_or-take p.t x k 0 h, ← r.is) (sym e)
+  -- the first n slots are clean
+  cleaned : (n : ℕ) → n ≤ p.t → ((k : ℕ) → k < n → clean_at p x most k ≡ true) → clean_slots (fields p (take n (values_in p x))) (drop p.t x) ≡ true
+  cleaned zero h each = slots_none p (drop p.t x)
+  cleaned (suc n) h each =
+      ap (λ (i : ℕ). clean_slots (fields p (take i (values_in p x))) (drop p.t x)) (sym (add-one n))
+      ∙ slots_more p (values_in p x) n (omega (arith, length-values_in p x l)) x (cleaned n (omega arith) (λ k g. each k (omega arith)))
+      (there n (omega arith) (each n (omega arith)))
 
-  pub cleaned_more : k < p.t → true ≡ clean_slots (round_fields p (get_or x k 0)) (drop at x) → (n : ℕ) → n ≡ round_most p
-      → Cleaned p x (at + n) (k + 1)
-  cleaned_more h e n g =
-      record {
-        far = omega arith;
-        is = omega (arith, r.is, slot-more p k);
-        cleaned = slots_more p (values_in p x) k (omega (arith, length-values_in p x l)) x r.cleaned (there h e);
-      }
+  at_place : (k : ℕ) → k < p.t → clean_at p x most (get_or (range_with_len 0 p.t) k 0) ≡ clean_at p x most k
+  at_place k h = ap (clean_at p x most) (get_or-range_with_len 0 p.t k 0 h ∙ zero-add k)
 
-  pub cleaned_fails : k < p.t → false ≡ clean_slots (round_fields p (get_or x k 0)) (drop at x) → true ≡ slot_wrong p x
+  -- the answer of `any` over the slots
+  pub slots_tested : (r : Bool)
+      → MatchBool r
+      ((k : ℕ) × (k < length (range_with_len 0 p.t)) × HoldsAt (λ k. clean_at p x most k ≡ false) (range_with_len 0 p.t) k)
+      (AllWithin (λ k. clean_at p x most k ≡ true) (range_with_len 0 p.t) 0 (length (range_with_len 0 p.t)))
+      → r ≡ slot_wrong p x
   unfolding slot_wrong
-  cleaned_fails h e = ap not (sym (slots_fails p (values_in p x) k (omega (arith, length-values_in p x l)) x (there h e)))
-
-  pub cleaned_all : p.t ≤ k → false ≡ slot_wrong p x
-  unfolding slot_wrong
-  cleaned_all h =
-      let g : k ≡ length (values_in p x) = omega (arith, length-values_in p x l, r.far) in
-      let e : take k (values_in p x) ≡ values_in p x = ap (λ (n : ℕ). take n (values_in p x)) g ∙ take-length (values_in p x) in
-      ap not (sym (ap (λ (es : List ℕ). clean_slots (fields p es) (drop p.t x)) (sym e) ∙ r.cleaned))
-
--- ---- the values
-
-pub value_wrong_lem : (p : Set) (x : Bytes) (b : Bool) → all is_value (values_in p x) ≡ b → not b ≡ value_wrong p x
-unfolding value_wrong
-value_wrong_lem p x b e = ap not (sym e)
+  slots_tested true (k, h, f) =
+      let b : k < p.t = omega (arith, length-range_with_len 0 p.t) in
+      ap not (sym (slots_fails p (values_in p x) k (omega (arith, length-values_in p x l)) x (there k b (sym (at_place k b) ∙ f 0))))
+  slots_tested false f =
+      let each = λ (k : ℕ) (b : k < p.t). sym (at_place k b) ∙ f k 0 (omega arith) (omega (arith, length-range_with_len 0 p.t)) in
+      let g : take p.t (values_in p x) ≡ values_in p x =
+      ap (λ (n : ℕ). take n (values_in p x)) (sym (length-values_in p x l)) ∙ take-length (values_in p x) in
+      ap not (sym (ap (λ (es : List ℕ). clean_slots (fields p es) (drop p.t x)) (sym g) ∙ cleaned p.t (omega arith) each))

@@ -1,14 +1,14 @@
 -- A signature unpacked into an output: values, salt, and slot by slot.
-use mathlib.Core.Path.{◌≡◌, refl, sym, ap, ◌∙◌}
-use mathlib.Core.List.{List, [], ◌∷◌, ◌++◌, append_assoc}
+use mathlib.Core.Path.{◌≡◌, sym, ap, ◌∙◌}
+use mathlib.Core.List.{List, ◌++◌, append_assoc}
 use Prim.Native.Nat.{ℕ, ◌+◌, ◌*◌, ◌-◌, ◌≤◌, ◌<◌}
 use native.Mathlib.Omega.{arith}
 use native.Mathlib.Numerals.{add-one}
-use native.Mathlib.Nat.{mul-one, mul-le-mul_right}
-use lib.ListN.{length, take, drop, get_or, set, replicate, length-append, length-drop, length-replicate}
+use native.Mathlib.Nat.{mul-le-mul_right}
+use lib.ListN.{length, take, drop, get_or, replicate, length-append, length-drop, length-replicate}
 use lib.Seq.{length-take-le, take-length}
 use Rattle.slices.specs.Slices.{Bytes, part, put, over, cleared, joined}
-use Rattle.slices.proofs.SliceLaws.{length_over, over_none, over_store, over-put, put-none, put-put, put-part, length-put, length-joined}
+use Rattle.slices.proofs.SliceLaws.{over-put, put-none, put-put, put-part, length-put}
 use Rattle.sets.specs.declared.Set.{Set}
 use Rattle.sets.specs.Sets.{IsSet}
 use Rattle.sets.specs.Lengths.{w, salt_length, header_length, round_least, round_most, unpacked_length}
@@ -24,39 +24,6 @@ use Rattle.shape.proofs.RoundTripsProof.{exact-long}
 use Rattle.shape.proofs.FormLaws.{slot_from, length_slot_from, unpack-rounds, form_by_slots, slot-first, slot-more, slot-within}
 use Rattle.shape.proofs.SetFacts.{unpacked≤}
 use Rattle.parts.proofs.WalkLaws.{Reached, reached-first, reached-more, reached-within}
-
--- ---- the values, one a byte
-
-pub record Valued (s out₀ : Bytes) (k : ℕ) (out : Bytes) : Type 0 where
-  pub is : out ≡ over (joined k (λ i. value_at s i ∷ [])) out₀
-  pub far : k ≤ length out₀
-
-pub valued_none : (s out₀ : Bytes) → Valued s out₀ 0 out₀
-unfolding joined
-valued_none s out₀ = record { is = over_none out₀; far = omega arith }
-
-module _ {s out₀ : Bytes} {k : ℕ} {out : Bytes} (h : Valued s out₀ k out) where
-  long : length (joined k (λ i. value_at s i ∷ [])) ≡ k
-  long = length-joined 1 (λ i. value_at s i ∷ []) (λ i. refl) k ∙ mul-one k
-
-  pub valued_length : length out ≡ length out₀
-  valued_length = ap length h.is ∙ length_over (joined k (λ i. value_at s i ∷ [])) out₀ (omega (arith, long, h.far))
-
-  pub valued_more : k < length out₀ → (v : ℕ) → v ≡ value_at s k → Valued s out₀ (k + 1) (set out k v)
-  unfolding joined
-  valued_more l v e =
-      record {
-        is =
-            ap (λ (x : Bytes). set x k v) h.is
-            ∙ (ap (λ (n : ℕ). set (over (joined k (λ i. value_at s i ∷ [])) out₀) n v) (sym long)
-            ∙ (over_store (joined k (λ i. value_at s i ∷ [])) out₀ v (omega (arith, long))
-            ∙ rw (add-one, e)));
-        far = omega arith;
-      }
-
-  pub valued_all : (p : Set) → k ≡ p.t → out ≡ over (values p s) out₀
-  unfolding values
-  valued_all p e = h.is ∙ ap (λ (n : ℕ). over (joined n (λ i. value_at s i ∷ [])) out₀) e
 
 -- ---- one slot
 

@@ -5,7 +5,7 @@ ghost use Rattle.std.specs.Prelude.{◌≡◌, ◌+◌, ◌≤◌, length, drop}
 ghost use Rattle.slices.specs.Slices.{part, put, over};
 ghost use Rattle.sets.specs.Sets.{IsSet};
 ghost use Rattle.sets.specs.Lengths.{salt_length, header_length, round_most, longest, unpacked_length};
-ghost use Rattle.answers.specs.Answers.{first};
+ghost use Rattle.answers.specs.Answers.{Fine, first, back};
 ghost use Rattle.answers.specs.Outcome.{Promise};
 ghost use Rattle.shape.specs.Fields.{sizes, unpack, pack, all, is_zero, clean_slots};
 ghost use Rattle.shape.specs.Header.{values};
@@ -14,18 +14,15 @@ ghost use Rattle.shape.specs.Form.{form, values_in, signature};
 ghost use Rattle.shape.specs.Reading.{value_wrong, slot_wrong, write_checks, read_into, write_into, ReadPromise, WritePromise};
 
 use answers::Refusal;
-use sets::{Chosen, Set};
+use sets::Set;
 
 // The values of a header, one a byte, at the start of an output.
 fn put_values(p: Set, s: &[u8], output: &mut [u8])
     requires { IsSet p × ((header_length p ≤ length s.now) × (p.t ≤ length output.old)) }
     ensures { output.new ≡ over (values p s.now) output.old }
 {
-    let t = p.t;
-    let mut k = 0;
-    while k < t {
-        output[k] = parts::value(s, k);
-        k += 1;
+    for (k, v) in output[..p.t].iter_mut().enumerate() {
+        *v = parts::value(s, k);
     }
 }
 
@@ -50,17 +47,14 @@ fn put_slots(p: Set, s: &[u8], output: &mut [u8])
     ensures { output.new ≡ put output.old (p.t + salt_length)
         (unpack (rounds_fields p (values p s.now)) (drop (header_length p + salt_length) s.now)) }
 {
-    let t = p.t;
     let most = p.round_most();
     let mut at = p.header() + Set::SALT;
-    let mut to = t + Set::SALT;
-    let mut k = 0;
-    while k < t {
+    let mut to = p.t + Set::SALT;
+    for k in 0..p.t {
         let e = parts::value(s, k);
         put_slot(p, e, s, at, output, to);
         at += parts::round_length(p, e);
         to += most;
-        k += 1;
     }
 }
 
@@ -81,15 +75,7 @@ fn value_wrong(p: Set, x: &[u8]) -> bool
     requires { IsSet p × (p.t ≤ length x.now) }
     ensures { result ≡ value_wrong p x.now }
 {
-    let t = p.t;
-    let mut k = 0;
-    while k < t {
-        if 3 <= x[k] {
-            return true;
-        }
-        k += 1;
-    }
-    false
+    x[..p.t].iter().any(|v| 3 <= *v)
 }
 
 // The n bytes from a place on are zero.
@@ -97,14 +83,7 @@ fn zeros(x: &[u8], at: usize, n: usize) -> bool
     requires { at + n ≤ length x.now }
     ensures { result ≡ all is_zero (part x.now at n) }
 {
-    let mut i = 0;
-    while i < n {
-        if x[at + i] != 0 {
-            return false;
-        }
-        i += 1;
-    }
-    true
+    x[at..at + n].iter().all(|b| *b == 0)
 }
 
 // The slot of a round of value e has zero padding, and a zero share where e is 0.
@@ -126,35 +105,26 @@ fn slot_wrong(p: Set, x: &[u8]) -> bool
     requires { IsSet p × (length x.now ≡ unpacked_length p) }
     ensures { result ≡ slot_wrong p x.now }
 {
-    let t = p.t;
     let most = p.round_most();
-    let mut at = t + Set::SALT;
-    let mut k = 0;
-    while k < t {
-        if !slot_clean(p, x[k], x, at) {
-            return true;
-        }
-        at += most;
-        k += 1;
-    }
-    false
+    let first = p.t + Set::SALT;
+    (0..p.t).any(|k| !slot_clean(p, x[k], x, first + k * most))
 }
 
 // The first check of writing that holds.
-pub fn check_form(p: Set, x: &[u8]) -> Refusal
+pub fn check_form(p: Set, x: &[u8]) -> Result<(), Refusal>
     requires { IsSet p }
     ensures { result ≡ first (write_checks p x.now) }
 {
     if x.len() != p.unpacked_length() {
-        return Refusal::Length;
+        return Err(Refusal::Length);
     }
     if value_wrong(p, x) {
-        return Refusal::Header;
+        return Err(Refusal::Header);
     }
     if slot_wrong(p, x) {
-        return Refusal::Padding;
+        return Err(Refusal::Padding);
     }
-    Refusal::Fine
+    Ok(())
 }
 
 // Every round from its slot to its place in a signature, and where the last one ends.
@@ -164,25 +134,22 @@ fn put_rounds(p: Set, x: &[u8], output: &mut [u8]) -> usize
         × (output.new ≡ put output.old (header_length p + salt_length)
         (pack (rounds_fields p (values_in p x.now)) (drop (p.t + salt_length) x.now))) }
 {
-    let t = p.t;
     let most = p.round_most();
-    let mut from = t + Set::SALT;
+    let mut from = p.t + Set::SALT;
     let mut at = p.header() + Set::SALT;
-    let mut k = 0;
-    while k < t {
+    for k in 0..p.t {
         let n = parts::round_length(p, x[k]);
         let end = from + n;
         slices::place(&x[from..end], output, at);
         at += n;
         from += most;
-        k += 1;
     }
     at
 }
 
 // The signature of an unpacked form that passed its checks, at the start of an output; its length.
 pub fn pack(p: Set, x: &[u8], output: &mut [u8]) -> usize
-    requires { IsSet p × ((first (write_checks p x.now) ≡ Refusal.Fine) × (longest p ≤ length output.old)) }
+    requires { IsSet p × ((first (write_checks p x.now) ≡ Fine) × (longest p ≤ length output.old)) }
     ensures { (result ≡ length (signature p x.now)) × (output.new ≡ over (signature p x.now) output.old) }
 {
     let t = p.t;
@@ -193,56 +160,43 @@ pub fn pack(p: Set, x: &[u8], output: &mut [u8]) -> usize
 }
 
 // Reading for a set that is known.
-fn read_into(p: Set, s: &[u8], output: &mut [u8]) -> u64
+fn read_into(p: Set, s: &[u8], output: &mut [u8]) -> Result<u32, Refusal>
     requires { IsSet p }
-    ensures { Promise (read_into p s.now (length output.old)) output.old result output.new }
+    ensures { Promise (read_into p s.now (length output.old)) output.old (back result) output.new }
 {
     let n = p.unpacked_length();
     if output.len() < n {
-        return Refusal::Room.answer(0);
+        return Err(Refusal::Room);
     }
-    let r = parts::check(p, s);
-    if r.fine() {
-        unpack(p, s, output);
-        return Refusal::Fine.answer(n as u32);
-    }
-    r.answer(0)
+    parts::check(p, s)?;
+    unpack(p, s, output);
+    Ok(n as u32)
 }
 
 // Writing for a set that is known.
-fn write_into(p: Set, x: &[u8], output: &mut [u8]) -> u64
+fn write_into(p: Set, x: &[u8], output: &mut [u8]) -> Result<u32, Refusal>
     requires { IsSet p }
-    ensures { Promise (write_into p x.now (length output.old)) output.old result output.new }
+    ensures { Promise (write_into p x.now (length output.old)) output.old (back result) output.new }
 {
     if output.len() < p.longest() {
-        return Refusal::Room.answer(0);
+        return Err(Refusal::Room);
     }
-    let r = check_form(p, x);
-    if r.fine() {
-        let n = pack(p, x, output);
-        return Refusal::Fine.answer(n as u32);
-    }
-    r.answer(0)
+    check_form(p, x)?;
+    Ok(pack(p, x, output) as u32)
 }
 
 // A signature into its unpacked form: what the exported call does.
-pub fn read(set: u64, s: &[u8], output: &mut [u8]) -> u64
-    ensures { ReadPromise set s.now output.old result output.new }
+pub fn read(set: u64, s: &[u8], output: &mut [u8]) -> Result<u32, Refusal>
+    ensures { ReadPromise set s.now output.old (back result) output.new }
 {
-    let chosen = Set::numbered(set);
-    let Chosen::Known(p) = chosen else {
-        return Refusal::NoSet.answer(0);
-    };
+    let p = Set::numbered(set).ok_or(Refusal::NoSet)?;
     read_into(p, s, output)
 }
 
 // An unpacked form into its signature: what the exported call does.
-pub fn write(set: u64, x: &[u8], output: &mut [u8]) -> u64
-    ensures { WritePromise set x.now output.old result output.new }
+pub fn write(set: u64, x: &[u8], output: &mut [u8]) -> Result<u32, Refusal>
+    ensures { WritePromise set x.now output.old (back result) output.new }
 {
-    let chosen = Set::numbered(set);
-    let Chosen::Known(p) = chosen else {
-        return Refusal::NoSet.answer(0);
-    };
+    let p = Set::numbered(set).ok_or(Refusal::NoSet)?;
     write_into(p, x, output)
 }

@@ -6,19 +6,19 @@ use Prim.Native.Nat.{ℕ, ◌*◌, ◌≤◌}
 use native.Mathlib.Omega.{arith}
 use lib.ListN.{length, take, length-append}
 use borrow.Author.Tests.{ltb-false}
+use Rattle.std.proofs.Common.{Some, None, Err}
 use Rattle.slices.specs.Slices.{Bytes, over, cleared, equal, joined}
 use Rattle.slices.proofs.SliceLaws.{length-joined}
 use Rattle.bits.specs.Bits.{Bits}
 use Rattle.bits.specs.Bytes.{bits_of, bytes_of, width}
 use Rattle.sets.specs.declared.Set.{Set}
-use Rattle.sets.specs.declared.Chosen.TheVariants.{Known, Unknown}
 use Rattle.sets.specs.Sets.{IsSet, numbered}
 use Rattle.sets.specs.Lengths.{w, public_length, room_length, seeds_length, longest}
 use Rattle.answers.specs.declared.Refusal.{Refusal}
-use Rattle.answers.specs.declared.Refusal.TheVariants.{Fine, NoSet, Pair, Blocks}
-use Rattle.answers.specs.Answers.{Check, when, first, fine, answer}
+use Rattle.answers.specs.declared.Refusal.TheVariants.{NoSet, Pair, Blocks}
+use Rattle.answers.specs.Answers.{Checked, Fine, Check, when, first, answer}
 use Rattle.answers.specs.Conditions.{other, too_short}
-use Rattle.answers.proofs.AnswersLaws.{stop, skip, group_stop, group_skip, group_none}
+use Rattle.answers.proofs.AnswersLaws.{stop, skip, group_stop, group_skip, none-holds}
 use Rattle.answers.proofs.ConditionsLaws.{neither, same_length, tables_same, keys_same}
 use Rattle.circuit.specs.Lowmc.{Cipher, encryption}
 use Rattle.circuit.specs.Round.{Party}
@@ -29,8 +29,6 @@ use Rattle.bits.specs.Words.{block_bits}
 use Rattle.lowmc.specs.Vectors.{at}
 use Rattle.bits.specs.declared.Block.{Block}
 use Rattle.hashing.specs.Hashing.{h}
-use Rattle.challenge.specs.declared.Filled.{Filled}
-use Rattle.challenge.specs.declared.Filled.TheVariants.{Full, Short}
 use Rattle.challenge.specs.Blocks.{too_few, first_values}
 use Rattle.challenge.specs.Filling.{Fills}
 use Rattle.challenge.proofs.BlocksLaws.{length-first, first_small}
@@ -111,7 +109,7 @@ module _ {p : Set} (i : IsSet p) (g : Given) where
     pub room-cleared : {room2 : Bytes} (n : ℕ) → n ≡ room_length p → room2 ≡ cleared n room1 → room2 ≡ cleared (room_length p) g.room
     room-cleared n e q = filled-cleared p filled g.room length_it er n e q
 
-    module _ {vs vs' : Bytes} {d : Filled}
+    module _ {vs vs' : Bytes} {d : Checked}
         (ch : Fills p (h p 1 (challenge_input (take (room_length p) room1) (salt_at p g.seeds) g.public g.message)) g.limit vs d vs') where
       -- the challenge is drawn from the first block that is promised
       drawn : Fills p (first_block p g) g.limit vs d vs'
@@ -119,10 +117,10 @@ module _ {p : Set} (i : IsSet p) (g : Given) where
       drawn = filled-from p _ _ g.limit vs vs' d (ap (λ (x : Bytes). h p 1 (challenge_input x (salt_at p g.seeds) g.public g.message)) front) ch
 
       -- place T is not filled
-      pub finished_few : d ≡ Short → {a : ℕ} {room2 : Bytes} → a ≡ answer Blocks 0 → room2 ≡ cleared (room_length p) g.room → Finished p g a room2 g.output
-      finished_few e ea eo = let q = fills_short drawn e in record { answered = rw q ea; left-room = eo; left-output = rw q }
+      pub finished_few : {x : Refusal} → d ≡ Err x → {a : ℕ} {room2 : Bytes} → a ≡ answer (Err x) 0 → room2 ≡ cleared (room_length p) g.room → Finished p g a room2 g.output
+      finished_few e ea eo = let q = fills_short drawn e in record { answered = rw q.0 (rw q.1 at ea); left-room = eo; left-output = rw q.0 }
 
-      module _ (e : d ≡ Full) where
+      module _ (e : d ≡ Fine) where
         first-values : take p.t vs' ≡ first_values p (first_block p g) g.limit
         first-values = fills_front drawn e
 
@@ -163,10 +161,10 @@ lengths_of p g =
     length_checks p (length g.keys) (length g.layers) (length g.constants) (length g.secret) (length g.public) (length g.message)
     g.limit (length g.seeds) (length g.room) (length g.output)
 
-pub fitting : {p : Set} → IsSet p → (g : Given) (r : Refusal) → r ≡ first (lengths_of p g) → fine r ≡ true → Fitting p g
+pub fitting : {p : Set} → IsSet p → (g : Given) → first (lengths_of p g) ≡ Fine → Fitting p g
 unfolding length_checks
-fitting {p} i g r e f =
-    let n = group_none (lengths_of p g) tt e f in
+fitting {p} i g e =
+    let n = none-holds (lengths_of p g) e in
     let tables = tables_same p (length g.keys) (length g.layers) (length g.constants) n.0 in
     let keys = keys_same p (length g.secret) (length g.public) n.1.0 in
     let rooms = neither _ (too_short (longest p) (length g.output)) n.1.1.1.1.0 in
@@ -187,37 +185,34 @@ by_cases true f h = f refl
 by_cases false f h = h refl
 
 module _ (g : Given) (a : ℕ) where
-  pub no_set : numbered g.set_number ≡ Unknown → a ≡ answer NoSet 0 → Signed g a g.room g.output
+  pub no_set : numbered g.set_number ≡ None → a ≡ answer (Err NoSet) 0 → Signed g a g.room g.output
   unfolding refusal_for written room_after over
   no_set e q = record { answered = rw e q; left-room = rw e; left-output = rw e }
 
-  module _ {p : Set} (e : numbered g.set_number ≡ Known p) where
+  module _ {p : Set} (e : numbered g.set_number ≡ Some p) where
     -- a check holds that keeps the room
-    kept : (r : Refusal) → first (checks p g) ≡ r → fine r ≡ false → clears r ≡ false → a ≡ answer r 0 → Signed g a g.room g.output
+    kept : (r : Refusal) → first (checks p g) ≡ Err r → clears (Err r) ≡ false → a ≡ answer (Err r) 0 → Signed g a g.room g.output
     unfolding refusal_for written room_after over
-    kept r f n k q = record { answered = rw (e, f, n) q; left-room = rw (e, f, k); left-output = rw (e, f, n) }
+    kept r f k q = record { answered = rw (e, f) q; left-room = rw (e, f, k); left-output = rw (e, f) }
 
-    module _ {r : Refusal} (f : r ≡ first (lengths_of p g)) where
-      -- one of the checks of lengths holds
-      pub stopped : fine r ≡ false → a ≡ answer r 0 → Signed g a g.room g.output
-      unfolding checks length_checks clears
-      stopped n q =
-          let s : first (checks p g) ≡ r = group_stop (lengths_of p g) _ tt f n in
-          kept r s n (rw (← f) at (keeps_first (lengths_of p g) tt (rw (← f) n))) q
+    -- one of the checks of lengths holds
+    pub stopped : {r : Refusal} → first (lengths_of p g) ≡ Err r → a ≡ answer (Err r) 0 → Signed g a g.room g.output
+    unfolding checks length_checks clears
+    stopped {r} f q = kept r (group_stop (lengths_of p g) _ f) (keeps_first (lengths_of p g) tt f) q
 
-      module _ (y : fine r ≡ true) where
+    module _ (y : first (lengths_of p g) ≡ Fine) where
         abbrev pairs : Bool
         pairs = equal (encrypted p g.keys g.layers g.constants g.secret (plaintext p g.public)) (ciphertext p g.public)
 
         -- where the lengths are right, 7 and 8 are left
         passes : first (checks p g) ≡ first (when (not pairs) Pair ∷ when (too_few p (first_block p g) g.limit) Blocks ∷ [])
         unfolding checks length_checks
-        passes = group_skip (lengths_of p g) _ tt f y
+        passes = group_skip (lengths_of p g) _ y
 
         -- the keys are no pair
-        pub unpaired : pairs ≡ false → a ≡ answer Pair 0 → Signed g a g.room g.output
+        pub unpaired : pairs ≡ false → a ≡ answer (Err Pair) 0 → Signed g a g.room g.output
         unfolding clears
-        unpaired n q = kept Pair (passes ∙ stop (not pairs) Pair _ (rw n)) refl refl q
+        unpaired n q = kept Pair (passes ∙ stop (not pairs) Pair _ (rw n)) refl q
 
         -- they are, and both passes were made
         module _ (n : pairs ≡ true) {room out : Bytes} (d : Finished p g a room out) where

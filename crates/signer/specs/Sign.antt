@@ -1,14 +1,11 @@
 -- What signing answers, and what it leaves in the room and the output, for every input.
-use Rattle.std.specs.Prelude.{◌≡◌, not, cond, ◌||◌, List, [], ◌∷◌, ◌++◌, ℕ, length, get_or}
+use Rattle.std.specs.Prelude.{◌≡◌, not, cond, ◌||◌, List, [], ◌∷◌, ◌++◌, ℕ, length, get_or, Option, Some, None, Err}
 use Rattle.slices.specs.Slices.{Bytes, over, equal}
 use Rattle.sets.specs.declared.Set.{Set}
-use Rattle.sets.specs.declared.Chosen.{Chosen}
-use Rattle.sets.specs.declared.Chosen.TheVariants.{Known, Unknown}
 use Rattle.sets.specs.Sets.{numbered}
 use Rattle.sets.specs.Lengths.{room_length, seeds_length, longest}
-use Rattle.answers.specs.declared.Refusal.{Refusal}
 use Rattle.answers.specs.declared.Refusal.TheVariants.{NoSet, Table, Key, Message, Limit, Room, Pair, Blocks}
-use Rattle.answers.specs.Answers.{Check, when, first, fine, answer}
+use Rattle.answers.specs.Answers.{Checked, Check, when, first, fine, answer}
 use Rattle.answers.specs.Conditions.{other, tables_other, keys_other, message_out, limit_out, too_short}
 use Rattle.circuit.specs.Lowmc.{Cipher}
 use Rattle.lowmc.specs.Lent.{cipher_of}
@@ -84,15 +81,15 @@ module _ (set : Set) (g : Given) where
   signature_of = signature_for set cipher g.secret g.public g.seeds (first_values set first_block g.limit)
 
 -- 1: the set is not 1, 2 or 3; else the first check that holds
-unfoldable pub refusal_for : Chosen → Given → Refusal
-refusal_for Unknown g = NoSet
-refusal_for (Known set) g = first (checks set g)
+unfoldable pub refusal_for : Option Set → Given → Checked
+refusal_for None g = Err NoSet
+refusal_for (Some set) g = first (checks set g)
 
-unfoldable pub signature_by : Chosen → Given → Bytes
-signature_by Unknown g = []
-signature_by (Known set) g = signature_of set g
+unfoldable pub signature_by : Option Set → Given → Bytes
+signature_by None g = []
+signature_by (Some set) g = signature_of set g
 
-abbrev pub refusal : Given → Refusal
+abbrev pub refusal : Given → Checked
 refusal g = refusal_for (numbered g.set_number) g
 
 -- what is written if nothing is refused

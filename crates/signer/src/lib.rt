@@ -6,10 +6,9 @@ ghost use Rattle.std.specs.Prelude.{◌≡◌, cond, ℕ, ◌*◌, ◌≤◌, eq
 ghost use Rattle.bits.specs.Bytes.{bits_of, bytes_of};
 ghost use Rattle.bits.specs.Words.{block_bits};
 ghost use Rattle.bits.specs.Rows.{Rows, flat, Rowed};
-ghost use Rattle.sets.specs.declared.Chosen.TheVariants.{Known};
 ghost use Rattle.sets.specs.Sets.{IsSet, numbered};
 ghost use Rattle.sets.specs.Lengths.{w, transcript_length, public_length, room_length, longest};
-ghost use Rattle.answers.specs.Answers.{first};
+ghost use Rattle.answers.specs.Answers.{first, back};
 ghost use Rattle.circuit.specs.Round.{Party, party2};
 ghost use Rattle.lowmc.specs.Cipher.{cipher};
 ghost use Rattle.lowmc.specs.Encrypted.{plaintext};
@@ -27,10 +26,9 @@ mod signing;
 
 use answers::Refusal;
 use bits::Block;
-use challenge::Filled;
 use lowmc::Tables;
 use round::View;
-use sets::{Chosen, Set};
+use sets::Set;
 use signing::Signing;
 
 // What the signer has of a round, by party. Transcripts are bytes, each at the start of an array.
@@ -42,7 +40,7 @@ pub struct Played {
 }
 
 // Checks 2 to 6.
-fn refused(
+fn check_lengths(
     p: Set,
     keys: usize,
     layers: usize,
@@ -54,32 +52,32 @@ fn refused(
     seeds: usize,
     room: usize,
     output: usize,
-) -> Refusal
+) -> Result<(), Refusal>
     requires { IsSet p }
     ensures { result ≡ first (length_checks p keys layers constants secret public message limit seeds room output) }
 {
     if answers::tables_other(p, keys, layers, constants) {
-        return Refusal::Table;
+        return Err(Refusal::Table);
     }
     if answers::keys_other(p, secret, public) {
-        return Refusal::Key;
+        return Err(Refusal::Key);
     }
     if answers::message_out(message) {
-        return Refusal::Message;
+        return Err(Refusal::Message);
     }
     if answers::limit_out(limit) {
-        return Refusal::Limit;
+        return Err(Refusal::Limit);
     }
     if seeds != p.seeds_length() {
-        return Refusal::Room;
+        return Err(Refusal::Room);
     }
     if room < p.room_length() {
-        return Refusal::Room;
+        return Err(Refusal::Room);
     }
     if output < p.longest() {
-        return Refusal::Room;
+        return Err(Refusal::Room);
     }
-    Refusal::Fine
+    Ok(())
 }
 
 // What the signer has of a round that was simulated from these input shares.
@@ -133,14 +131,14 @@ fn traced(tables: &Tables, secret: &[u8], public: &[u8], states: &mut [Block; 40
     round::all_states(tables, key, block, states);
 }
 
-// The challenge of the room that is filled: its values at the start of an array.
+// The challenge of the room that is filled: its values at the start of an array; refused if they are too few.
 fn challenged(
     signing: &Signing,
     message: &[u8],
     limit: u64,
     room: &[u8],
     values: &mut [u8],
-) -> Filled
+) -> Result<(), Refusal>
     requires { (room_length signing.now.tables.set ≤ length room.now) × (signing.now.tables.set.t ≤ length values.old) }
     ensures { Fills signing.now.tables.set
         (h signing.now.tables.set 1
@@ -169,29 +167,24 @@ fn sign_ready(
     limit: u64,
     room: &mut [u8],
     output: &mut [u8],
-) -> u64
+) -> Result<u32, Refusal>
     requires { (room_length signing.now.tables.set ≤ length room.old) × (longest signing.now.tables.set ≤ length output.old) }
     ensures { (set : ℕ)
-        → Finished signing.now.tables.set (handed_in set signing.now message.now limit room.old output.old) result room.new output.new }
+        → Finished signing.now.tables.set (handed_in set signing.now message.now limit room.old output.old) (back result) room.new output.new }
 {
     let t = signing.tables.set.t;
     let needed = signing.tables.set.room_length();
     signing.fill(room);
     let mut values = [0u8; 438];
-    let filled = challenged(signing, message, limit, room, &mut values);
+    let drawn = challenged(signing, message, limit, room, &mut values);
     slices::clear(room, needed);
-    match filled {
-        Filled::Short => Refusal::Blocks.answer(0),
-        Filled::Full => {
-            let length = signing.write(&values[..t], output);
-            Refusal::Fine.answer(length as u32)
-        }
-    }
+    drawn?;
+    Ok(signing.write(&values[..t], output) as u32)
 }
 
-// Checks 2 to 7 in their order, and then the signature.
-fn sign_known(
-    p: Set,
+// The call that signs: checks 1 to 7 in their order, and then the signature.
+pub fn sign(
+    set: u64,
     keys: &[u8],
     layers: &[u8],
     constants: &[u8],
@@ -202,10 +195,8 @@ fn sign_known(
     seeds: &[u8],
     room: &mut [u8],
     output: &mut [u8],
-) -> u64
-    requires { IsSet p }
-    ensures { (set : ℕ) → numbered set ≡ Known p
-        → Signed
+) -> Result<u32, Refusal>
+    ensures { Signed
         (record {
           set_number = set;
           keys = keys.now;
@@ -219,9 +210,10 @@ fn sign_known(
           room = room.old;
           output = output.old;
         })
-        result room.new output.new }
+        (back result) room.new output.new }
 {
-    let why = refused(
+    let p = Set::numbered(set).ok_or(Refusal::NoSet)?;
+    check_lengths(
         p,
         keys.len(),
         layers.len(),
@@ -233,10 +225,7 @@ fn sign_known(
         seeds.len(),
         room.len(),
         output.len(),
-    );
-    if !why.fine() {
-        return why.answer(0);
-    }
+    )?;
     let tables = Tables {
         set: p,
         keys,
@@ -253,46 +242,7 @@ fn sign_known(
         states: &states,
     };
     if !signing.paired() {
-        return Refusal::Pair.answer(0);
+        return Err(Refusal::Pair);
     }
     sign_ready(&signing, message, limit, room, output)
-}
-
-// The call that signs.
-pub fn sign(
-    set: u64,
-    keys: &[u8],
-    layers: &[u8],
-    constants: &[u8],
-    secret: &[u8],
-    public: &[u8],
-    message: &[u8],
-    limit: u64,
-    seeds: &[u8],
-    room: &mut [u8],
-    output: &mut [u8],
-) -> u64
-    ensures { Signed
-        (record {
-          set_number = set;
-          keys = keys.now;
-          layers = layers.now;
-          constants = constants.now;
-          secret = secret.now;
-          public = public.now;
-          message = message.now;
-          limit = limit;
-          seeds = seeds.now;
-          room = room.old;
-          output = output.old;
-        })
-        result room.new output.new }
-{
-    let chosen = Set::numbered(set);
-    let Chosen::Known(p) = chosen else {
-        return Refusal::NoSet.answer(0);
-    };
-    sign_known(
-        p, keys, layers, constants, secret, public, message, limit, seeds, room, output,
-    )
 }

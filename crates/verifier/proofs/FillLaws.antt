@@ -14,8 +14,7 @@ use Rattle.bits.specs.Bytes.{width}
 use Rattle.sets.specs.declared.Set.{Set}
 use Rattle.sets.specs.Sets.{IsSet}
 use Rattle.sets.specs.Lengths.{w, salt_length, header_length, room_length}
-use Rattle.answers.specs.declared.Refusal.TheVariants.{Fine}
-use Rattle.answers.specs.Answers.{first}
+use Rattle.answers.specs.Answers.{Fine, first}
 use Rattle.circuit.specs.Lowmc.{Cipher}
 use Rattle.circuit.specs.Round.{Party, party0}
 use Rattle.lowmc.specs.Encrypted.{plaintext, ciphertext}

@@ -5,15 +5,15 @@ use mathlib.Core.List.{List, ◌++◌}
 use Prim.Native.Nat.{ℕ, ◌≤◌}
 use lib.ListN.{length}
 use borrow.Author.Tests.{ltb-false}
+use Rattle.std.proofs.Common.{Some, None, Err}
 use Rattle.slices.specs.Slices.{Bytes, part, cleared, equal}
 use Rattle.sets.specs.declared.Set.{Set}
-use Rattle.sets.specs.declared.Chosen.TheVariants.{Known, Unknown}
 use Rattle.sets.specs.Sets.{IsSet, numbered}
 use Rattle.sets.specs.Lengths.{salt_length, header_length, public_length, room_length}
 use Rattle.answers.specs.declared.Refusal.{Refusal}
-use Rattle.answers.specs.declared.Refusal.TheVariants.{Fine, NoSet, Blocks, Differs}
-use Rattle.answers.specs.Answers.{Check, first, fine, answer}
-use Rattle.answers.proofs.AnswersLaws.{group_stop, group_skip, group_none}
+use Rattle.answers.specs.declared.Refusal.TheVariants.{NoSet, Blocks, Differs}
+use Rattle.answers.specs.Answers.{Checked, Fine, Check, first, answer}
+use Rattle.answers.proofs.AnswersLaws.{group_stop, group_skip, none-holds}
 use Rattle.answers.proofs.ConditionsLaws.{same_length, tables_same}
 use Rattle.hashing.specs.Hashing.{h}
 use Rattle.lowmc.specs.Lent.{cipher_of, Lent}
@@ -65,10 +65,10 @@ abbrev pub lengths_of : Set → Given → List Check
 lengths_of p g =
     length_checks p (length g.keys) (length g.layers) (length g.constants) (length g.public) (length g.message) g.limit (length g.room)
 
-pub fitting : {p : Set} → IsSet p → (g : Given) (r : Refusal) → r ≡ first (lengths_of p g) → fine r ≡ true → Fitting p g
+pub fitting : {p : Set} → IsSet p → (g : Given) → first (lengths_of p g) ≡ Fine → Fitting p g
 unfolding length_checks
-fitting {p} i g r e f =
-    let n = group_none (lengths_of p g) tt e f in
+fitting {p} i g e =
+    let n = none-holds (lengths_of p g) e in
     let tables = tables_same p (length g.keys) (length g.layers) (length g.constants) n.0 in
     record {
       lent = record { is_set = i; keys_length = tables.0; layers-length = tables.1; constants-length = tables.2 };
@@ -84,55 +84,50 @@ verdict_of p g =
     verdict_checks p (first_block p g.keys g.layers g.constants g.public g.message (form p g.signature)) g.limit
     (values_in p (form p g.signature))
 
-clears_verdict : (b c : Bool) → clears (cond b Blocks (cond c Differs Fine)) ≡ true
+clears_verdict : (b c : Bool) → clears (cond b (Err Blocks) (cond c (Err Differs) Fine)) ≡ true
 unfolding clears
 clears_verdict true c = refl
 clears_verdict false true = refl
 clears_verdict false false = refl
 
 -- each verdict clears the room
-cleared_by : (p : Set) (b : Bytes) (limit : ℕ) (es : Bytes) (v : Refusal) → v ≡ first (verdict_checks p b limit es) → clears v ≡ true
+cleared_by : (p : Set) (b : Bytes) (limit : ℕ) (es : Bytes) (v : Checked) → v ≡ first (verdict_checks p b limit es) → clears v ≡ true
 unfolding verdict_checks first
 cleared_by p b limit es v j = ap clears j ∙ clears_verdict (too_few p b limit) (not (equal (first_values p b limit) es))
 
 module _ (g : Given) (a : ℕ) where
-  pub no_set : numbered g.set_number ≡ Unknown → a ≡ answer NoSet 0 → Verified g a g.room
+  pub no_set : numbered g.set_number ≡ None → a ≡ answer (Err NoSet) 0 → Verified g a g.room
   unfolding refusal_for room_after
   no_set e q = record { answered = rw e q; left = rw e }
 
-  module _ {p : Set} (e : numbered g.set_number ≡ Known p) where
+  module _ {p : Set} (e : numbered g.set_number ≡ Some p) where
     -- a check holds that keeps the room
-    kept : (r : Refusal) → first (checks p g) ≡ r → clears r ≡ false → a ≡ answer r 0 → Verified g a g.room
+    kept : (r : Refusal) → first (checks p g) ≡ Err r → clears (Err r) ≡ false → a ≡ answer (Err r) 0 → Verified g a g.room
     unfolding refusal_for room_after
     kept r f k q = record { answered = rw (e, f) q; left = rw (e, f, k) }
 
-    module _ {r : Refusal} (f : r ≡ first (lengths_of p g)) where
-      -- one of the checks of lengths holds
-      pub stopped : fine r ≡ false → a ≡ answer r 0 → Verified g a g.room
-      unfolding checks length_checks clears
-      stopped n q =
-          let s : first (checks p g) ≡ r = group_stop (lengths_of p g) _ tt f n in
-          kept r s (rw (← f) at (keeps_first (lengths_of p g) tt (rw (← f) n))) q
+    -- one of the checks of lengths holds
+    pub stopped : {r : Refusal} → first (lengths_of p g) ≡ Err r → a ≡ answer (Err r) 0 → Verified g a g.room
+    unfolding checks length_checks clears
+    stopped {r} f q = kept r (group_stop (lengths_of p g) _ f) (keeps_first (lengths_of p g) tt f) q
 
-      module _ (y : fine r ≡ true) {u : Refusal} (d : u ≡ first (read_checks p g.signature)) where
-        passes : first (checks p g) ≡ first (read_checks p g.signature ++ verdict_of p g)
-        unfolding checks length_checks
-        passes = group_skip (lengths_of p g) _ tt f y
+    module _ (y : first (lengths_of p g) ≡ Fine) where
+      passes : first (checks p g) ≡ first (read_checks p g.signature ++ verdict_of p g)
+      unfolding checks length_checks
+      passes = group_skip (lengths_of p g) _ y
 
-        -- the signature does not read
-        pub unread : fine u ≡ false → a ≡ answer u 0 → Verified g a g.room
-        unfolding read_checks clears
-        unread n q =
-            let s : first (checks p g) ≡ u = passes ∙ group_stop (read_checks p g.signature) _ tt d n in
-            kept u s (rw (← d) at (keeps_first (read_checks p g.signature) tt (rw (← d) n))) q
+      -- the signature does not read
+      pub unread : {r : Refusal} → first (read_checks p g.signature) ≡ Err r → a ≡ answer (Err r) 0 → Verified g a g.room
+      unfolding read_checks clears
+      unread {r} d q = kept r (passes ∙ group_stop (read_checks p g.signature) _ d) (keeps_first (read_checks p g.signature) tt d) q
 
-        -- it does, and the verdict was reached
-        pub judged : fine u ≡ true → {v : Refusal} {room : Bytes} → v ≡ first (verdict_of p g) → a ≡ answer v 0 → room ≡ cleared (room_length p) g.room
-            → Verified g a room
-        unfolding read_checks refusal_for room_after
-        judged n {v} j q o =
-            let s : first (checks p g) ≡ v = passes ∙ (group_skip (read_checks p g.signature) _ tt d n ∙ sym j) in
-            record { answered = rw (e, s) q; left = rw (e, s, cleared_by p _ g.limit _ v j) o }
+      -- it does, and the verdict was reached
+      pub judged : first (read_checks p g.signature) ≡ Fine → {v : Checked} {room : Bytes} → v ≡ first (verdict_of p g) → a ≡ answer v 0
+          → room ≡ cleared (room_length p) g.room → Verified g a room
+      unfolding read_checks refusal_for room_after
+      judged d {v} j q o =
+          let s : first (checks p g) ≡ v = passes ∙ (group_skip (read_checks p g.signature) _ d ∙ sym j) in
+          record { answered = rw (e, s) q; left = rw (e, s, cleared_by p _ g.limit _ v j) o }
 
 -- ---- the promise settles the outcome
 

@@ -1,14 +1,11 @@
 -- What verifying answers and what it leaves in the room, for every input.
-use Rattle.std.specs.Prelude.{◌≡◌, not, List, [], ◌∷◌, ◌++◌, ℕ, length}
+use Rattle.std.specs.Prelude.{◌≡◌, not, List, [], ◌∷◌, ◌++◌, ℕ, length, Option, Some, None, Err}
 use Rattle.slices.specs.Slices.{Bytes, equal}
 use Rattle.sets.specs.declared.Set.{Set}
-use Rattle.sets.specs.declared.Chosen.{Chosen}
-use Rattle.sets.specs.declared.Chosen.TheVariants.{Known, Unknown}
 use Rattle.sets.specs.Sets.{numbered}
 use Rattle.sets.specs.Lengths.{public_length, room_length}
-use Rattle.answers.specs.declared.Refusal.{Refusal}
 use Rattle.answers.specs.declared.Refusal.TheVariants.{NoSet, Table, Key, Message, Limit, Room, Blocks, Differs}
-use Rattle.answers.specs.Answers.{Check, when, first, answer}
+use Rattle.answers.specs.Answers.{Checked, Check, when, first, answer}
 use Rattle.answers.specs.Conditions.{other, tables_other, message_out, limit_out, too_short}
 use Rattle.lowmc.specs.Lent.{cipher_of}
 use Rattle.hashing.specs.Hashing.{h}
@@ -62,11 +59,11 @@ checks set g =
     ++ verdict_checks set (first_block set g.keys g.layers g.constants g.public g.message x) g.limit (values_in set x))
 
 -- 1: the set is not 1, 2 or 3; else the first check that holds
-unfoldable pub refusal_for : Chosen → Given → Refusal
-refusal_for Unknown g = NoSet
-refusal_for (Known set) g = first (checks set g)
+unfoldable pub refusal_for : Option Set → Given → Checked
+refusal_for None g = Err NoSet
+refusal_for (Some set) g = first (checks set g)
 
-abbrev pub refusal : Given → Refusal
+abbrev pub refusal : Given → Checked
 refusal g = refusal_for (numbered g.set_number) g
 
 -- the promise: the answer, bytes written being 0 in verifying, and what is left in the room

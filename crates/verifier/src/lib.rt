@@ -7,10 +7,9 @@ ghost use Rattle.bits.specs.Bits.{◌⊕◌};
 ghost use Rattle.bits.specs.Bytes.{bits_of, bytes_of};
 ghost use Rattle.bits.specs.Words.{block_bits};
 ghost use Rattle.bits.specs.Rows.{Rows, flat, Rowed};
-ghost use Rattle.sets.specs.declared.Chosen.TheVariants.{Known};
 ghost use Rattle.sets.specs.Sets.{IsSet, numbered};
 ghost use Rattle.sets.specs.Lengths.{w, salt_length, header_length, public_length, room_length};
-ghost use Rattle.answers.specs.Answers.{first};
+ghost use Rattle.answers.specs.Answers.{Fine, first, answer};
 ghost use Rattle.circuit.specs.Round.{Party, next};
 ghost use Rattle.circuit.specs.Tapes.{party_number};
 ghost use Rattle.lowmc.specs.Lent.{cipher_of};
@@ -33,11 +32,10 @@ ghost use Rattle.verifier.specs.Verify.{Verified, length_checks, verdict_checks,
 
 use answers::Refusal;
 use bits::Block;
-use challenge::Filled;
 use lowmc::Tables;
 use parts::{Here, Shown};
 use round::Again;
-use sets::{Chosen, Set};
+use sets::Set;
 
 // What is opened of a round: the input shares of two parties, each at the start of an array, and what is recomputed.
 #[derive(Clone, Copy)]
@@ -229,7 +227,7 @@ fn fill_round(
 // Round t recomputed from where its parts stand in the signature.
 fn fill_at(tables: &Tables, public: &[u8], signature: &[u8], here: Here, t: usize, room: &mut [u8])
     requires { (length public.now ≡ public_length tables.now.set) × (t < tables.now.set.t)
-        × (first (read_checks tables.now.set signature.now) ≡ Refusal.Fine) × Located tables.now.set signature.now t here
+        × (first (read_checks tables.now.set signature.now) ≡ Fine) × Located tables.now.set signature.now t here
         × (room_length tables.now.set ≤ length room.old) }
     ensures { room.new
         ≡ with_round tables.now.set t
@@ -254,7 +252,7 @@ fn fill_at(tables: &Tables, public: &[u8], signature: &[u8], here: Here, t: usiz
 // All rounds recomputed: the room is filled with their output shares and commitments.
 fn fill(tables: &Tables, public: &[u8], signature: &[u8], room: &mut [u8])
     requires { (length public.now ≡ public_length tables.now.set)
-        × (first (read_checks tables.now.set signature.now) ≡ Refusal.Fine) × (room_length tables.now.set ≤ length room.old) }
+        × (first (read_checks tables.now.set signature.now) ≡ Fine) × (room_length tables.now.set ≤ length room.old) }
     ensures { (room.new
         ≡ over
         (verifier_filling tables.now.set (cipher tables.now) public.now (form tables.now.set signature.now))
@@ -290,7 +288,7 @@ fn judge(
     message: &[u8],
     limit: u64,
     signature: &[u8],
-) -> Refusal
+) -> Result<(), Refusal>
     requires { IsSet p × (header_length p + salt_length ≤ length signature.now) }
     ensures { result
         ≡ first
@@ -302,7 +300,7 @@ fn judge(
     let from = p.header();
     let end = from + Set::SALT;
     let mut values = [0u8; 438];
-    let done = room::challenge(
+    room::challenge(
         p,
         filled,
         &signature[from..end],
@@ -310,20 +308,15 @@ fn judge(
         message,
         limit,
         &mut values,
-    );
-    match done {
-        Filled::Short => Refusal::Blocks,
-        Filled::Full => {
-            if agrees(p, &values[..t], signature) {
-                return Refusal::Fine;
-            }
-            Refusal::Differs
-        }
+    )?;
+    if agrees(p, &values[..t], signature) {
+        return Ok(());
     }
+    Err(Refusal::Differs)
 }
 
 // Checks 2 to 6.
-fn refused(
+fn check_lengths(
     p: Set,
     keys: usize,
     layers: usize,
@@ -332,26 +325,26 @@ fn refused(
     message: usize,
     limit: u64,
     room: usize,
-) -> Refusal
+) -> Result<(), Refusal>
     requires { IsSet p }
     ensures { result ≡ first (length_checks p keys layers constants public message limit room) }
 {
     if answers::tables_other(p, keys, layers, constants) {
-        return Refusal::Table;
+        return Err(Refusal::Table);
     }
     if public != p.public_length() {
-        return Refusal::Key;
+        return Err(Refusal::Key);
     }
     if answers::message_out(message) {
-        return Refusal::Message;
+        return Err(Refusal::Message);
     }
     if answers::limit_out(limit) {
-        return Refusal::Limit;
+        return Err(Refusal::Limit);
     }
     if room < p.room_length() {
-        return Refusal::Room;
+        return Err(Refusal::Room);
     }
-    Refusal::Fine
+    Ok(())
 }
 
 // The rounds, the challenge and the verdict, for a signature that reads well; the room is cleared.
@@ -362,9 +355,9 @@ fn verify_read(
     limit: u64,
     room: &mut [u8],
     signature: &[u8],
-) -> Refusal
+) -> Result<(), Refusal>
     requires { (length public.now ≡ public_length tables.now.set)
-        × (first (read_checks tables.now.set signature.now) ≡ Refusal.Fine) × (room_length tables.now.set ≤ length room.old) }
+        × (first (read_checks tables.now.set signature.now) ≡ Fine) × (room_length tables.now.set ≤ length room.old) }
     ensures { (result
         ≡ first
         (verdict_checks tables.now.set
@@ -380,61 +373,6 @@ fn verify_read(
     verdict
 }
 
-// Verifying for a set that is known.
-fn verify_known(
-    p: Set,
-    keys: &[u8],
-    layers: &[u8],
-    constants: &[u8],
-    public: &[u8],
-    message: &[u8],
-    limit: u64,
-    room: &mut [u8],
-    signature: &[u8],
-) -> u64
-    requires { IsSet p }
-    ensures { (set : ℕ) → numbered set ≡ Known p
-        → Verified
-        (record {
-          set_number = set;
-          keys = keys.now;
-          layers = layers.now;
-          constants = constants.now;
-          public = public.now;
-          message = message.now;
-          limit = limit;
-          room = room.old;
-          signature = signature.now;
-        })
-        result room.new }
-{
-    let why = refused(
-        p,
-        keys.len(),
-        layers.len(),
-        constants.len(),
-        public.len(),
-        message.len(),
-        limit,
-        room.len(),
-    );
-    if !why.fine() {
-        return why.answer(0);
-    }
-    let found = parts::check(p, signature);
-    if !found.fine() {
-        return found.answer(0);
-    }
-    let tables = Tables {
-        set: p,
-        keys,
-        layers,
-        constants,
-    };
-    let verdict = verify_read(&tables, public, message, limit, room, signature);
-    verdict.answer(0)
-}
-
 // The verifying call.
 pub fn verify(
     set: u64,
@@ -446,7 +384,7 @@ pub fn verify(
     limit: u64,
     room: &mut [u8],
     signature: &[u8],
-) -> u64
+) -> Result<(), Refusal>
     ensures { Verified
         (record {
           set_number = set;
@@ -459,13 +397,25 @@ pub fn verify(
           room = room.old;
           signature = signature.now;
         })
-        result room.new }
+        (answer result 0) room.new }
 {
-    let chosen = Set::numbered(set);
-    let Chosen::Known(p) = chosen else {
-        return Refusal::NoSet.answer(0);
+    let p = Set::numbered(set).ok_or(Refusal::NoSet)?;
+    check_lengths(
+        p,
+        keys.len(),
+        layers.len(),
+        constants.len(),
+        public.len(),
+        message.len(),
+        limit,
+        room.len(),
+    )?;
+    parts::check(p, signature)?;
+    let tables = Tables {
+        set: p,
+        keys,
+        layers,
+        constants,
     };
-    verify_known(
-        p, keys, layers, constants, public, message, limit, room, signature,
-    )
+    verify_read(&tables, public, message, limit, room, signature)
 }

@@ -1,52 +1,55 @@
 -- `lowmc::public_key_call` meets its contract.
 use native.Mathlib.Omega.{arith}
-use mathlib.Core.Path.{refl, sym, ap, ◌∙◌, subst}
+use mathlib.Core.Path.{sym, ◌∙◌, subst}
 use Prim.Native.Nat.{ℕ, ◌≤◌}
 use lib.ListN.{length}
 use Rattle.bits.specs.Bytes.{width}
 use Rattle.sets.specs.Lengths.{public_length}
 use Rattle.sets.proofs.Each.{known_set, most}
-use Rattle.answers.specs.declared.Refusal.TheVariants.{Fine, NoSet}
-use Rattle.answers.specs.Answers.{answer}
-use Rattle.answers.proofs.OutcomeLaws.{promise_refused, promise_given}
+use Rattle.answers.proofs.OutcomeLaws.{promise_refused, promise_given, handed_on, no_such_set}
 use Rattle.lowmc.proofs.CallsLaws.{passed, lent, public_no_set, public-refused, public-given, length-public}
 use Rattle.lowmc.proofs.public_key_call.Goals as goal
 
-pub returns-in_default : goal.returns-in_default
-returns-in_default c = promise_refused _ NoSet _ _ _ (public_no_set _ _ _ _ _ _ _ (sym c.numbered-chosen.ensures ∙ c.in_default.is)) c.answer.ensures refl
+pub returns-in_err-p : goal.returns-in_err-p
+returns-in_err-p c =
+    promise_refused _ _ _ (public_no_set _ _ _ _ _ _ _ (sym c.numbered.ensures ∙ c.in_err-p.ensures.ok_part))
+    (no_such_set _ c.in_err-p.ensures.ok_part c.in_err-p.ensures.value c.from_residual.ensures.1)
 
 pub public_length-n-requires : goal.public_length-n-requires
-public_length-n-requires c = known_set c.args.set _ (sym c.numbered-chosen.ensures ∙ c.in-Known.is)
+public_length-n-requires c = known_set c.args.set _ (sym c.numbered.ensures ∙ c.in_ok-p.ensures.ok_part)
 
-pub refusal-why-requires : goal.refusal-why-requires
-refusal-why-requires c = known_set c.args.set _ (sym c.numbered-chosen.ensures ∙ c.in-Known.is)
+pub check-requires : goal.check-requires
+check-requires c = known_set c.args.set _ (sym c.numbered.ensures ∙ c.in_ok-p.ensures.ok_part)
 
-pub returns-then-not-fine : goal.returns-then-not-fine
-returns-then-not-fine c =
-    promise_refused _ _ _ _ _
-    (public-refused _ c.args.keys.now c.args.layers.now c.args.constants.now c.args.secret.now c.args.block.now _ _ (sym c.numbered-chosen.ensures ∙ c.in-Known.is) _ _ c.refusal-why.ensures c.public_length-n.ensures (sym c.fine.ensures ∙ c.if-not-fine.true))
-    c.answer-then-not-fine.ensures refl
+pub returns-in_err-check : goal.returns-in_err-check
+returns-in_err-check c =
+    let a = c.args in
+    promise_refused _ _ _
+    (public-refused _ a.keys.now a.layers.now a.constants.now a.secret.now a.block.now _ _ (sym c.numbered.ensures ∙ c.in_ok-p.ensures.ok_part) _ _ (sym c.in_err-check.ensures) c.public_length-n.ensures)
+    (handed_on _ c.from_residual-in_err-check.ensures.1)
 
 pub invariant_of-tables : goal.invariant_of-tables
 invariant_of-tables c =
     let a = c.args in
     record {
-      lent = lent _ a.keys.now a.layers.now a.constants.now a.secret.now a.block.now _ _ (known_set a.set _ (sym c.numbered-chosen.ensures ∙ c.in-Known.is))
-          (passed _ _ _ _ _ _ _ _ _ c.refusal-why.ensures (sym c.fine.ensures ∙ c.if-not-fine.false));
+      lent = lent _ a.keys.now a.layers.now a.constants.now a.secret.now a.block.now _ _ (known_set a.set _ (sym c.numbered.ensures ∙ c.in_ok-p.ensures.ok_part))
+          (passed _ _ _ _ _ _ _ _ (sym c.in_ok-check.ensures));
     }
 
 pub public_key-requires : goal.public_key-requires
 public_key-requires c =
-    let h = passed _ _ _ _ _ _ _ _ _ c.refusal-why.ensures (sym c.fine.ensures ∙ c.if-not-fine.false) in
+    let h = passed _ _ _ _ _ _ _ _ (sym c.in_ok-check.ensures) in
     (h.secret-length, h.block_length, subst (λ (k : ℕ). k ≤ length c.args.output.now) c.public_length-n.ensures h.enough)
 
-pub overflow_cast-n : goal.overflow_cast-n
+pub overflow_cast-result : goal.overflow_cast-result
 unfolding width
-overflow_cast-n c = omega (arith, c.public_length-n.ensures, most public_length 64 tt tt tt (known_set c.args.set _ (sym c.numbered-chosen.ensures ∙ c.in-Known.is)))
+overflow_cast-result c = omega (arith, c.public_length-n.ensures, most public_length 64 tt tt tt (known_set c.args.set _ (sym c.numbered.ensures ∙ c.in_ok-p.ensures.ok_part)))
 
 pub returns : goal.returns
 returns c =
+    let a = c.args in
+    let is = sym c.in_ok-check.ensures in
     promise_given _ _ _ _ _
-    (public-given _ c.args.keys.now c.args.layers.now c.args.constants.now c.args.secret.now c.args.block.now _ _ (sym c.numbered-chosen.ensures ∙ c.in-Known.is) _ _ c.refusal-why.ensures c.public_length-n.ensures (sym c.fine.ensures ∙ c.if-not-fine.false))
-    (c.answer-2.ensures ∙ ap (answer Fine) (c.public_length-n.ensures ∙ sym (length-public _ c.args.keys.now c.args.layers.now c.args.constants.now c.args.secret.now c.args.block.now (passed _ _ _ _ _ _ _ _ _ c.refusal-why.ensures (sym c.fine.ensures ∙ c.if-not-fine.false)).block_length)))
+    (public-given _ a.keys.now a.layers.now a.constants.now a.secret.now a.block.now _ _ (sym c.numbered.ensures ∙ c.in_ok-p.ensures.ok_part) _ is c.public_length-n.ensures)
+    (c.public_length-n.ensures ∙ sym (length-public _ a.keys.now a.layers.now a.constants.now a.secret.now a.block.now (passed _ _ _ _ _ _ _ _ is).block_length))
     c.public_key.ensures

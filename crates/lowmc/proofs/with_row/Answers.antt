@@ -12,15 +12,12 @@ loop-k-init g c = set_none _ _ _ _ (omega arith)
 pub overflow_mul-word : goal.overflow_mul-word
 overflow_mul-word g c =
     let l = c.loop-k in
-    omega (arith, l.invariant.rest l.k (omega arith), c.requires.2 l.k c.loop-k-test.true)
-
-pub row_parity-requires : goal.row_parity-requires
-row_parity-requires g c = (c.requires.0, c.requires.1)
+    omega (arith, l.invariant.rest l.k (omega arith), c.requires.1 l.k c.loop-k-test.true)
 
 pub overflow_add-word : goal.overflow_add-word
 overflow_add-word g c =
     let l = c.loop-k in
-    omega (arith, l.invariant.rest l.k (omega arith), c.requires.2 l.k c.loop-k-test.true, c.row_parity.ensures, digit_le)
+    omega (arith, l.invariant.rest l.k (omega arith), c.requires.1 l.k c.loop-k-test.true, c.row_parity.ensures, digit_le)
 
 pub loop-k-preserved : goal.loop-k-preserved
 loop-k-preserved g c =

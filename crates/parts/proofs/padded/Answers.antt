@@ -1,10 +1,8 @@
 -- `parts::padded` meets its contract.
-use mathlib.Core.Path.{refl}
-use Prim.Native.Nat.{◌+◌, ◌-◌, ◌*◌, ◌/◌}
+use Rattle.std.proofs.Common.{arith, rules, ◌≡◌, ◌+◌, ◌-◌, ◌*◌, ◌/◌}
 use lib.Pow.{pow_pos}
 use Rattle.bits.specs.Bytes.{width}
 use Rattle.parts.proofs.PaddedLaws.{padded_byte, unit}
-use borrow.Author.Rules.{rules}
 use Rattle.parts.proofs.padded.Goals as goal
 
 pub bounds-s-last : goal.bounds-s-last
@@ -13,10 +11,11 @@ bounds-s-last c = search rules
 
 pub nonzero_rem-result : goal.nonzero_rem-result
 nonzero_rem-result c =
-    rw (unit c.args.m ((c.args.m + 7) / 8) refl) (pow_pos (8 * ((c.args.m + 7) / 8) - c.args.m))
+    let n : c.div_ceil-n.result ≡ (c.args.m + 7) / 8 = omega (arith, c.div_ceil-n.ensures) in
+    rw (unit c.args.m _ n) (pow_pos (8 * c.div_ceil-n.result - c.args.m))
 
 pub returns : goal.returns
 returns c =
-    rw (unit c.args.m ((c.args.m + 7) / 8) refl)
-    (padded_byte c.args.s.now c.args.at c.args.m ((c.args.m + 7) / 8) refl c.requires.0
-    (c.type_inv.s (c.args.at + ((c.args.m + 7) / 8 - 1))).fits)
+    let n : c.div_ceil-n.result ≡ (c.args.m + 7) / 8 = omega (arith, c.div_ceil-n.ensures) in
+    rw (unit c.args.m _ n)
+    (padded_byte c.args.s.now c.args.at c.args.m _ n c.requires.0 (c.type_inv.s (c.args.at + (c.div_ceil-n.result - 1))).fits)

@@ -1,38 +1,28 @@
 -- `signature::slot_wrong` meets its contract.
-use mathlib.Core.Path.{sym, ◌∙◌}
-use native.Mathlib.Omega.{arith}
-use Rattle.shape.proofs.SetFacts.{t≤, unpacked≤}
-use Rattle.signature.proofs.TestLaws.{cleaned_none, cleaned_inside, cleaned_more, cleaned_fails, cleaned_all}
+use Rattle.std.proofs.Common.{rules, arith, refl, ◌≡◌, ◌+◌, ◌*◌, ◌≤◌, ◌<◌, true, false, length}
+use borrow.Author.Tests.{tests}
+use Rattle.sets.specs.Lengths.{round_most}
+use Rattle.sets.specs.Sets.{IsSet}
+use Rattle.shape.proofs.SetFacts.{unpacked≤}
+use Rattle.std.proofs.lemmas.Iterator.{cases_from_any, YieldsList-from_range, serves_from_Range}
+use Rattle.signature.proofs.TestLaws.{clean_at, slot_inside, slots_tested}
 use Rattle.signature.proofs.slot_wrong.Goals as goal
 
-pub overflow_add-at : goal.overflow_add-at
-overflow_add-at c = omega (arith, t≤ c.requires.0)
-
-pub loop-k-init : goal.loop-k-init
-loop-k-init c = cleaned_none _ _ _ (omega arith)
-
-pub slot_clean-requires : goal.slot_clean-requires
-slot_clean-requires c =
-    (c.requires.0, cleaned_inside c.loop-k.invariant c.requires.1 c.loop-k-test.true)
-
-pub returns-then-not-slot_clean : goal.returns-then-not-slot_clean
-returns-then-not-slot_clean c =
-    cleaned_fails c.loop-k.invariant c.requires.1 c.loop-k-test.true
-    (sym (c.if-not-slot_clean.true) ∙ c.slot_clean.ensures)
-
-pub overflow_add-at-in-loop-k : goal.overflow_add-at-in-loop-k
-overflow_add-at-in-loop-k c =
-    omega (
-      arith,
-      cleaned_inside c.loop-k.invariant c.requires.1
-          c.loop-k-test.true,
-      unpacked≤ c.requires.0,
-    )
-
-pub loop-k-preserved : goal.loop-k-preserved
-loop-k-preserved c =
-    cleaned_more c.loop-k.invariant c.requires.1 c.loop-k-test.true
-    (sym (c.if-not-slot_clean.false) ∙ c.slot_clean.ensures) _ c.round_most-most.ensures
+pub any-requires-clause-callable : goal.any-requires-clause-callable
+any-requires-clause-callable c =
+    serves_from_Range (λ k b q. search rules)
+    (λ k a b.
+    let i : c.args.p.t + 32 + k * c.round_most-most.result + round_most c.args.p ≤ length c.args.x.now =
+    slot_inside c.args.p c.args.x.now c.requires.1 _ c.round_most-most.ensures k b in
+    let u : length c.args.x.now ≤ 133184 = omega (arith, unpacked≤ c.requires.0) in
+    let s : IsSet c.args.p = c.requires.0 in
+    let n : k < length c.args.x.now = omega arith in
+    search rules)
 
 pub returns : goal.returns
-returns c = cleaned_all c.loop-k.invariant c.requires.1 c.loop-k-test.false
+returns c =
+    slots_tested c.args.p c.args.x.now c.requires.1 _ c.round_most-most.ensures _
+    (cases_from_any _ _ _ (λ k. clean_at c.args.p c.args.x.now c.round_most-most.result k ≡ false)
+    (λ k. clean_at c.args.p c.args.x.now c.round_most-most.result k ≡ true) c.any.ensures.ran
+    (YieldsList-from_range 0 c.args.p.t c.args.p.t refl (omega arith))
+    (λ k q h. search (rules, tests)) (λ k q h. search (rules, tests)))

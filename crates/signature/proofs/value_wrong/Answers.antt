@@ -1,24 +1,18 @@
 -- `signature::value_wrong` meets its contract.
-use mathlib.Core.Path.{refl}
-use borrow.Author.Tests.{lt-ltb, le-ltb}
+use Rattle.std.proofs.Common.{rules, ◌∙◌, not}
+use borrow.Author.Tests.{tests}
+use Rattle.std.proofs.lemmas.Iterator.{YieldsList-from_slice}
+use Rattle.std.proofs.lemmas.Iterator.Search.{any_from_yields_List}
 use Rattle.shape.specs.Header.{is_value}
-use Rattle.signature.proofs.TestLaws.{passed_none, passed-more, passed_fails, passed-all, value_wrong_lem}
+use Rattle.shape.specs.Form.{values_in}
+use Rattle.shape.specs.Reading.{value_wrong}
+use Rattle.signature.proofs.TestLaws.{some_fails}
 use Rattle.signature.proofs.value_wrong.Goals as goal
 
-pub loop-k-init : goal.loop-k-init
-loop-k-init c = passed_none is_value _ _
-
-pub returns-then-x-k-ge3 : goal.returns-then-x-k-ge3
-returns-then-x-k-ge3 c =
-    value_wrong_lem c.args.p c.args.x.now _
-    (passed_fails is_value c.args.x.now _ _ _ c.requires.1 c.loop-k-test.true refl
-    (le-ltb _ 3 c.if-x-k-ge3.true))
-
-pub loop-k-preserved : goal.loop-k-preserved
-loop-k-preserved c =
-    passed-more c.loop-k.invariant c.requires.1 c.loop-k-test.true _ refl
-    (lt-ltb _ 3 c.if-x-k-ge3.false)
-
 pub returns : goal.returns
+unfolding value_wrong
 returns c =
-    value_wrong_lem c.args.p c.args.x.now _ (passed-all c.loop-k.invariant c.loop-k-test.false)
+    any_from_yields_List (λ v. not (is_value v)) _ _ _ c.any.ensures.ran
+    (YieldsList-from_slice (values_in c.args.p c.args.x.now) c.iter.ensures.rest)
+    (λ x b q k. search (rules, tests))
+    ∙ some_fails is_value (values_in c.args.p c.args.x.now)

@@ -1,15 +1,46 @@
 -- `verifier::verify` meets its contract.
-use mathlib.Core.Path.{sym, ◌∙◌}
+use mathlib.Core.Path.{refl, sym, ap, ◌∙◌}
 use Rattle.sets.proofs.Each.{known_set}
-use Rattle.verifier.proofs.VerifyLaws.{no_set}
+use Rattle.answers.specs.Answers.{Checked, answer}
+use Rattle.answers.proofs.OutcomeLaws.{handed_on, no_such_set}
+use Rattle.verifier.proofs.VerifyLaws.{handed, fitting, no_set, stopped, unread, judged}
 use Rattle.verifier.proofs.verify.Goals as goal
 
-pub returns-in_default : goal.returns-in_default
-returns-in_default c =
-    no_set _ _ (sym c.numbered-chosen.ensures ∙ c.in_default.is) c.answer.ensures
+pub returns-in_err-p : goal.returns-in_err-p
+returns-in_err-p c =
+    no_set _ _ (sym c.numbered.ensures ∙ c.in_err-p.ensures.ok_part)
+    (ap (λ (r : Checked). answer r 0) (no_such_set _ c.in_err-p.ensures.ok_part c.in_err-p.ensures.value c.from_residual.ensures.1))
 
-pub verify_known-requires : goal.verify_known-requires
-verify_known-requires c = known_set c.args.set _ (sym c.numbered-chosen.ensures ∙ c.in-Known.is)
+pub check_lengths-requires : goal.check_lengths-requires
+check_lengths-requires c = known_set c.args.set _ (sym c.numbered.ensures ∙ c.in_ok-p.ensures.ok_part)
+
+pub returns-in_err-check_lengths : goal.returns-in_err-check_lengths
+returns-in_err-check_lengths c =
+    stopped _ _ (sym c.numbered.ensures ∙ c.in_ok-p.ensures.ok_part) (sym c.in_err-check_lengths.ensures)
+    (ap (λ (r : Checked). answer r 0) (handed_on _ c.from_residual-in_err-check_lengths.ensures.1))
+
+pub check-requires : goal.check-requires
+check-requires c = known_set c.args.set _ (sym c.numbered.ensures ∙ c.in_ok-p.ensures.ok_part)
+
+pub returns-in_err-check : goal.returns-in_err-check
+returns-in_err-check c =
+    unread _ _ (sym c.numbered.ensures ∙ c.in_ok-p.ensures.ok_part) (sym c.in_ok-check_lengths.ensures) (sym c.in_err-check.ensures)
+    (ap (λ (r : Checked). answer r 0) (handed_on _ c.from_residual-in_err-check.ensures.1))
+
+pub invariant_of-tables : goal.invariant_of-tables
+invariant_of-tables c =
+    let a = c.args in
+    let g = handed 0 a.keys.now a.layers.now a.constants.now a.public.now a.message.now a.limit a.room.now a.signature.now in
+    record { lent = (fitting (known_set a.set _ (sym c.numbered.ensures ∙ c.in_ok-p.ensures.ok_part)) g (sym c.in_ok-check_lengths.ensures)).lent }
+
+pub verify_read-requires : goal.verify_read-requires
+verify_read-requires c =
+    let a = c.args in
+    let g = handed 0 a.keys.now a.layers.now a.constants.now a.public.now a.message.now a.limit a.room.now a.signature.now in
+    let f = fitting (known_set a.set _ (sym c.numbered.ensures ∙ c.in_ok-p.ensures.ok_part)) g (sym c.in_ok-check_lengths.ensures) in
+    (f.public-long, sym c.in_ok-check.ensures, f.room-enough)
 
 pub returns : goal.returns
-returns c = c.verify_known.ensures c.args.set (sym c.numbered-chosen.ensures ∙ c.in-Known.is)
+returns c =
+    judged _ _ (sym c.numbered.ensures ∙ c.in_ok-p.ensures.ok_part) (sym c.in_ok-check_lengths.ensures) (sym c.in_ok-check.ensures)
+    c.verify_read.ensures.0 refl c.verify_read.ensures.1

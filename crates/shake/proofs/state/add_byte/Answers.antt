@@ -10,4 +10,4 @@ unfolding byte_added
 returns c =
     let j = c.args.j in
     let h : 8 + 8 * (j % 8) ≤ 64 = omega arith in
-    rw (shl_exact 8 (8 * (j % 8)) 64 c.ranges.b.fits h)
+    rw (c.from.ensures, shl_exact 8 (8 * (j % 8)) 64 c.ranges.b.fits h)

@@ -1,13 +1,8 @@
 -- `shake::state::give_bytes` meets its contract. The invariant: q bytes are stored.
 use mathlib.Core.Path.{◌≡◌}
-use Prim.Native.Nat.{◌-◌, ◌≤◌}
-use lib.ListN.{length}
-use Rattle.slices.specs.Slices.{put}
+use Rattle.slices.specs.Slices.{over}
 use Rattle.shake.specs.Shake.{bytes_at}
 use Rattle.shake.proofs.state.give_bytes.Given as goal
 
 abbrev pub invariant-loop-q : goal.invariant-loop-q
-invariant-loop-q l = (l.q ≤ l.n) × (length l.out ≡ length l.initial.out) × (l.out ≡ put l.initial.out l.i (bytes_at l.a l.j l.q))
-
-abbrev pub decreases-loop-q : goal.decreases-loop-q
-decreases-loop-q l = l.n - l.q
+invariant-loop-q l = l.out ≡ over (bytes_at l.a l.j l.q) l.initial.out

@@ -11,12 +11,12 @@ use Rattle.lowmc.proofs.tables.Tables.turn.Goals as goal
 pub products-l-requires : goal.products-l-requires
 products-l-requires g c =
     let t = c.args.self.now in
-    (omega arith, (t.lent.is_set, layer_room t c.args.i c.requires))
+    (omega arith, (t.lent.is_set, layer_room t _ c.requires))
 
 pub products-m-requires : goal.products-m-requires
 products-m-requires g c =
     let t = c.args.self.now in
-    (omega arith, (t.lent.is_set, key_room t (c.args.i + 1) (omega arith)))
+    (omega arith, (t.lent.is_set, key_room t _ (omega arith)))
 
 pub returns : goal.returns
 returns g c k l =

@@ -1,0 +1,14 @@
+-- `bits::eight` meets its contract.
+use native.Mathlib.Omega.{arith}
+use mathlib.Core.Path.{◌≡◌, sym, ap, ◌∙◌}
+use Prim.Native.Nat.{ℕ, ◌+◌, ◌-◌}
+use lib.ListN.{take, drop}
+use Rattle.bits.proofs.BytesLaws.{bytes_of_part}
+use Rattle.bits.proofs.eight.Goals as goal
+
+pub returns : goal.returns
+returns c =
+    let a = c.args in
+    let e : a.at + 8 - a.at ≡ 8 = omega arith in
+    c.copy_from_slice.ensures.after ∙ ap (λ (n : ℕ). take n (drop a.at a.s.now)) e
+    ∙ sym (bytes_of_part a.s.now a.at 8 (λ k. (c.type_inv.s k).fits) (omega arith))
