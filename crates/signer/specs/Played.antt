@@ -6,9 +6,9 @@ use Rattle.bits.specs.Bytes.{bits_of, bytes_of, width}
 use Rattle.sets.specs.declared.Set.{Set}
 use Rattle.sets.specs.Lengths.{w, public_length, seeds_length}
 use Rattle.circuit.specs.Lowmc.{Cipher}
-use Rattle.circuit.specs.Round.{Party, party0, party1, party2, by_party}
+use Rattle.circuit.specs.Round.{Party}
 use Rattle.bits.specs.declared.Block.{Block}
-use Rattle.circuit.specs.Tapes.{party_number, gate_bits, tape_length}
+use Rattle.circuit.specs.Tapes.{party_number, gate_bits}
 use Rattle.lowmc.specs.Lent.{cipher_of, Lent}
 use Rattle.lowmc.specs.Encrypted.{plaintext}
 use Rattle.round.specs.Engine.{share_in, Traced}

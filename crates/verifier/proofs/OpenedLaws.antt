@@ -19,12 +19,10 @@ use Rattle.circuit.specs.Round.{Party, party0, party1, party2, next, transcript�
 use Rattle.circuit.specs.Tapes.{party_number, tape_share}
 use Rattle.lowmc.specs.Lent.{cipher_of}
 use Rattle.lowmc.specs.Encrypted.{ciphertext, plaintext}
-use Rattle.round.specs.declared.Again.{Again}
-use Rattle.round.specs.Engine.{RecomputedAs, Written}
-use Rattle.round.specs.Inputs.{opening_of}
+use Rattle.round.specs.Engine.{Written}
 use Rattle.hashing.specs.Hashing.{commitment}
 use Rattle.shape.specs.Form.{Shown}
-use Rattle.views.specs.Parties.{party_of, from_party, three}
+use Rattle.views.specs.Parties.{from_party, three}
 use Rattle.views.specs.Opened.{opened_share, tape₁, tape₂, opening, recomputed_transcript, recomputed_outputs, recomputed_commitments}
 use Rattle.views.proofs.PartiesLaws.{at_first, at_second}
 use Rattle.room.specs.Room.{shares_at, commitments_at, with_round}

@@ -1,13 +1,5 @@
 -- `signer::in_bytes` meets its contract.
-use mathlib.Core.Path.{◌≡◌, refl}
-use Prim.Native.Nat.{◌*◌}
-use lib.ListN.{take}
-use Rattle.bits.specs.Bytes.{bytes_of}
-use Rattle.bits.specs.Rows.{Rows, flat}
-use Rattle.sets.specs.Lengths.{transcript_length}
 use Rattle.circuit.specs.Round.{party0, party1, party2}
-use Rattle.round.specs.Engine.{said, Written}
-use Rattle.round.proofs.EngineLaws.{three}
 use Rattle.signer.proofs.in_bytes.Goals as goal
 
 pub transcribed-requires : goal.transcribed-requires
@@ -18,13 +10,3 @@ transcribed-requires-2 c = (c.requires.0, c.requires.1 party1)
 
 pub transcribed-requires-3 : goal.transcribed-requires-3
 transcribed-requires-3 c = (c.requires.0, c.requires.1 party2)
-
-pub returns : goal.returns
-returns c =
-    let a = c.args in
-    let p = a.p in (
-      refl,
-      refl,
-      three (λ j. (u : Rows) → Written (3 * p.s) p.r u (said a.v j) → take (transcript_length p) _ ≡ bytes_of (3 * p.s * p.r) (flat (3 * p.s) u))
-          c.transcribed.ensures c.transcribed-2.ensures c.transcribed-3.ensures,
-    )

@@ -1,6 +1,5 @@
 -- `verifier::fill_round` meets its contract.
 use mathlib.Core.Path.{ap₂, ◌∙◌}
-use native.Mathlib.Omega.{arith}
 use Rattle.slices.specs.Slices.{Bytes}
 use Rattle.lowmc.specs.Cipher.{cipher}
 use Rattle.parts.specs.Places.{shown_by}
@@ -8,8 +7,7 @@ use Rattle.views.specs.Parties.{party_of, three}
 use Rattle.views.specs.Opened.{recomputed_outputs, recomputed_commitments}
 use Rattle.views.proofs.PartiesLaws.{number_of}
 use Rattle.room.specs.Room.{with_round}
-use Rattle.room.proofs.RoomLaws.{sizes}
-use Rattle.verifier.proofs.OpenedLaws.{round_filled, plain_as, plain_small, cipher_as, cipher-small}
+use Rattle.verifier.proofs.OpenedLaws.{round_filled, plain_as, cipher_as}
 use borrow.Author.Rules.{rules}
 use Rattle.verifier.proofs.fill_round.Goals as goal
 
