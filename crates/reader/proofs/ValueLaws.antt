@@ -1,9 +1,8 @@
 -- A value of a header, read as two bits one after the other.
 use mathlib.Core.Path.{◌≡◌, refl, sym, ap, ap₂, ◌∙◌}
 use mathlib.Core.Bool.{Bool, true, false, cond}
-use Prim.Native.Nat.{ℕ, ◌+◌, ◌-◌, ◌*◌, ◌/◌, ◌%◌, ◌<◌, ◌≤◌}
+use Prim.Native.Nat.{ℕ, ◌+◌, ◌-◌, ◌*◌, ◌/◌, ◌%◌, ◌≤◌}
 use native.Mathlib.Omega.{arith}
-use lib.Dec.{lit<}
 use lib.ListN.{length, get_or-eq_default}
 use borrow.Author.Tests.{ltb-false}
 use Rattle.slices.specs.Slices.{Bytes}
@@ -11,13 +10,8 @@ use Rattle.bits.specs.Bytes.{bit, bits_of, digit}
 use Rattle.bits.proofs.NumberLaws.{bit_zero}
 use Rattle.shape.specs.Header.{value_at, place}
 use Rattle.reader.specs.declared.Position.{Position}
-use Rattle.std.specs.Prelude.{Option, Some, None}
+use Rattle.std.specs.Prelude.{Some, None}
 use Rattle.reader.specs.Reading.{bit_number, position, within, next_bit, after_bit, digit_of}
-
-pub digit-small : (b : Option Bool) → digit_of b < 2
-digit-small (Some true) = lit< tt
-digit-small (Some false) = lit< tt
-digit-small None = lit< tt
 
 -- where the value at place k starts
 abbrev pub first : ℕ → Position

@@ -4,13 +4,9 @@ use native.Mathlib.Omega.{arith}
 use lib.Seq.{length-take-le}
 use Rattle.shape.proofs.ReadingLaws.{whole}
 use Rattle.shape.proofs.RoundTripsProof.{length-signature}
-use Rattle.shape.proofs.SetFacts.{t≤}
 use Rattle.signature.proofs.PackLaws.{packed}
 use Rattle.signature.proofs.CallLaws.{whole-values}
 use Rattle.signature.proofs.pack.Goals as goal
-
-pub overflow_add-end : goal.overflow_add-end
-overflow_add-end c = omega (arith, t≤ c.requires.0)
 
 pub slice_bounds-put_header-end : goal.slice_bounds-put_header-end
 slice_bounds-put_header-end c =

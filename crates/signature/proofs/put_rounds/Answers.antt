@@ -4,15 +4,9 @@ use Prim.Native.Nat.{◌+◌, ◌-◌}
 use native.Mathlib.Omega.{arith}
 use lib.ListN.{drop, get_or, length-take}
 use Rattle.shape.proofs.RoundsLaws.{sizes_bounds}
-use Rattle.shape.proofs.SetFacts.{t≤, header_length≤, round_most≤}
+use Rattle.shape.proofs.SetFacts.{round_most≤}
 use Rattle.signature.proofs.PackLaws.{packed_none, packed-length, packed_inside, packed-small, packed_more, packed_all}
 use Rattle.signature.proofs.put_rounds.Goals as goal
-
-pub overflow_add-from : goal.overflow_add-from
-overflow_add-from c = omega (arith, t≤ c.requires.0)
-
-pub overflow_add-at : goal.overflow_add-at
-overflow_add-at c = omega (arith, header_length≤ c.requires.0)
 
 pub loop-k-init : goal.loop-k-init
 loop-k-init c = packed_none _ _ _ _ _ (omega arith) (omega arith)
@@ -70,10 +64,6 @@ loop-k-preserved c =
     c.round_length-n.ensures
     c.round_most-most.ensures refl
     c.place.ensures
-
-pub shape_of-output : goal.shape_of-output
-shape_of-output c =
-    packed-length c.loop-k.invariant c.requires.1.0 c.requires.1.1
 
 pub returns : goal.returns
 returns c =

@@ -2,17 +2,11 @@
 use native.Mathlib.Omega.{arith}
 use Rattle.shape.proofs.RoundsLaws.{sizes_bounds}
 use Rattle.shape.proofs.RoundTripsProof.{exact-long}
-use Rattle.shape.proofs.SetFacts.{header_length≤, round_most≤, t≤}
+use Rattle.shape.proofs.SetFacts.{round_most≤}
 use Rattle.parts.proofs.HeadLaws.{value_inside}
 use Rattle.parts.proofs.WalkLaws.{reached-most}
-use Rattle.signature.proofs.UnpackLaws.{unpacked_none, unpacked_length_lem, unpacked_inside, unpacked_most, unpacked_more, unpacked_all}
+use Rattle.signature.proofs.UnpackLaws.{unpacked_none, unpacked_inside, unpacked_most, unpacked_more, unpacked_all}
 use Rattle.signature.proofs.put_slots.Goals as goal
-
-pub overflow_add-at : goal.overflow_add-at
-overflow_add-at c = omega (arith, header_length≤ c.requires.0)
-
-pub overflow_add-to : goal.overflow_add-to
-overflow_add-to c = omega (arith, t≤ c.requires.0)
 
 pub loop-k-init : goal.loop-k-init
 loop-k-init c = unpacked_none _ _ _ _ _ (omega arith) (omega arith)
@@ -53,10 +47,6 @@ loop-k-preserved c =
     c.loop-k-test.true _ _ _ c.value-e.ensures
     c.round_length-at.ensures c.round_most-most.ensures
     c.put_slot.ensures
-
-pub shape_of-output : goal.shape_of-output
-shape_of-output c =
-    unpacked_length_lem c.loop-k.invariant c.requires.1.0 c.requires.1.1
 
 pub returns : goal.returns
 returns c =
