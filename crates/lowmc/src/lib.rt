@@ -95,7 +95,7 @@ fn rows_words<const N: usize>(m: &[u8], w: usize, g: usize, v: [Block; N]) -> [u
 {
     let t = turned(v);
     let mut x = [0u64; N];
-    // Rows by number: `chunks_exact` counts the bytes that are left as well, an instruction more for each row.
+    // Rows by number: `chunks_exact` counts the bytes that are left as well, up to an instruction more for each row.
     for j in 0..64 {
         x = with_row(x, piece(m, g + j, w), t);
     }

@@ -7,11 +7,8 @@ use Rattle.circuit.specs.Matrices.{product}
 use Rattle.circuit.proofs.MatricesLaws.{product_past}
 use Rattle.lowmc.specs.Lent.{row}
 use Rattle.lowmc.specs.Vectors.{at}
-use Rattle.lowmc.proofs.VectorsLaws.{set_none, set_more}
+use Rattle.lowmc.proofs.VectorsLaws.{set_more}
 use Rattle.lowmc.proofs.products_rows.Goals as goal
-
-pub loop-k-init : goal.loop-k-init
-loop-k-init g c = set_none _ _ _ _ (omega arith)
 
 pub loop-k-preserved : goal.loop-k-preserved
 loop-k-preserved g c =
@@ -24,6 +21,3 @@ loop-k-preserved g c =
     set_more _ _ _ _ _ c.loop-k.invariant l
     (λ e. four_words (product n M x) _ _ _ _ (c.product_words-a.ensures k l) (c.product_words-b.ensures k l) (c.product_words-c.ensures k l)
     (c.product_words-d.ensures k l) (λ i h. product_past n M x i (omega arith)))
-
-pub returns : goal.returns
-returns g c k l = c.loop-k.invariant.done k (omega arith)

@@ -20,11 +20,6 @@ row-enough g j w n l h = omega (arith, mul-le-mul_right {m = g + j + 1} {n = g +
 pub loop-j-init : goal.loop-j-init
 loop-j-init g c k l = get_or-replicate _ k 0 0 l ∙ value_none _
 
-pub piece-requires : goal.piece-requires
-piece-requires g c =
-    let a = c.args in
-    row-enough a.g c.loop-j.j a.w _ (omega arith) (omega arith)
-
 pub with_row-x-requires : goal.with_row-x-requires
 with_row-x-requires g c =
     let a = c.args in

@@ -1,11 +1,6 @@
 -- `lowmc::Tables::constant` meets its contract.
-use Rattle.lowmc.proofs.LentLaws.{constant_in, constant_small, constant_of_lem}
+use Rattle.lowmc.proofs.LentLaws.{constant_small, constant_of_lem}
 use Rattle.lowmc.proofs.tables.Tables.constant.Goals as goal
-
-pub piece-requires : goal.piece-requires
-piece-requires c =
-    let t = c.args.self.now in
-    constant_in t.lent.is_set c.width.result c.width.ensures c.args.i t.constants.now t.lent.constants-length c.requires
 
 pub load-requires : goal.load-requires
 load-requires c =

@@ -1,17 +1,10 @@
 -- `lowmc::Tables::start` meets its contract.
-use native.Mathlib.Omega.{arith}
 use mathlib.Core.Path.{◌∙◌, ap}
 use Rattle.bits.specs.Bits.{Bits, ◌⊕◌}
 use Rattle.bits.specs.Words.{block_bits}
 use Rattle.lowmc.specs.Vectors.{at}
-use Rattle.lowmc.proofs.LentLaws.{key_room}
 use Rattle.lowmc.proofs.EncryptedLaws.{start_of}
 use Rattle.lowmc.proofs.tables.Tables.start.Goals as goal
-
-pub products-requires : goal.products-requires
-products-requires g c =
-    let t = c.args.self.now in
-    (omega arith, (t.lent.is_set, key_room t 0 (omega arith)))
 
 pub returns : goal.returns
 returns g c k l =
