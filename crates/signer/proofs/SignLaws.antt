@@ -201,39 +201,39 @@ module _ (g : Given) (a : ℕ) where
     stopped {r} f q = kept r (group_stop (lengths_of p g) _ f) (keeps_first (lengths_of p g) tt f) q
 
     module _ (y : first (lengths_of p g) ≡ Fine) where
-        abbrev pairs : Bool
-        pairs = equal (encrypted p g.keys g.layers g.constants g.secret (plaintext p g.public)) (ciphertext p g.public)
+      abbrev pairs : Bool
+      pairs = equal (encrypted p g.keys g.layers g.constants g.secret (plaintext p g.public)) (ciphertext p g.public)
 
-        -- where the lengths are right, 7 and 8 are left
-        passes : first (checks p g) ≡ first (when (not pairs) Pair ∷ when (too_few p (first_block p g) g.limit) Blocks ∷ [])
-        unfolding checks length_checks
-        passes = group_skip (lengths_of p g) _ y
+      -- where the lengths are right, 7 and 8 are left
+      passes : first (checks p g) ≡ first (when (not pairs) Pair ∷ when (too_few p (first_block p g) g.limit) Blocks ∷ [])
+      unfolding checks length_checks
+      passes = group_skip (lengths_of p g) _ y
 
-        -- the keys are no pair
-        pub unpaired : pairs ≡ false → a ≡ answer (Err Pair) 0 → Signed g a g.room g.output
-        unfolding clears
-        unpaired n q = kept Pair (passes ∙ stop (not pairs) Pair _ (rw n)) refl q
+      -- the keys are no pair
+      pub unpaired : pairs ≡ false → a ≡ answer (Err Pair) 0 → Signed g a g.room g.output
+      unfolding clears
+      unpaired n q = kept Pair (passes ∙ stop (not pairs) Pair _ (rw n)) refl q
 
-        -- they are, and both passes were made
-        module _ (n : pairs ≡ true) {room out : Bytes} (d : Finished p g a room out) where
-          -- 8 is left
-          last : first (checks p g) ≡ first (when (too_few p (first_block p g) g.limit) Blocks ∷ [])
-          last = passes ∙ skip (not pairs) Pair _ (rw n)
+      -- they are, and both passes were made
+      module _ (n : pairs ≡ true) {room out : Bytes} (d : Finished p g a room out) where
+        -- 8 is left
+        last : first (checks p g) ≡ first (when (too_few p (first_block p g) g.limit) Blocks ∷ [])
+        last = passes ∙ skip (not pairs) Pair _ (rw n)
 
-          few : too_few p (first_block p g) g.limit ≡ true → Signed g a room out
-          unfolding refusal_for written room_after over clears
-          few t =
-              let q = last ∙ stop _ Blocks [] t in
-              record { answered = rw (e, q) (rw t at d.answered); left-room = rw (e, q) d.left-room; left-output = rw (e, q) (rw t at d.left-output) }
+        few : too_few p (first_block p g) g.limit ≡ true → Signed g a room out
+        unfolding refusal_for written room_after over clears
+        few t =
+            let q = last ∙ stop _ Blocks [] t in
+            record { answered = rw (e, q) (rw t at d.answered); left-room = rw (e, q) d.left-room; left-output = rw (e, q) (rw t at d.left-output) }
 
-          enough : too_few p (first_block p g) g.limit ≡ false → Signed g a room out
-          unfolding refusal_for signature_by written room_after clears first
-          enough t =
-              let q = last ∙ skip _ Blocks [] t in
-              record { answered = rw (e, q) (rw t at d.answered); left-room = rw (e, q) d.left-room; left-output = rw (e, q) (rw t at d.left-output) }
+        enough : too_few p (first_block p g) g.limit ≡ false → Signed g a room out
+        unfolding refusal_for signature_by written room_after clears first
+        enough t =
+            let q = last ∙ skip _ Blocks [] t in
+            record { answered = rw (e, q) (rw t at d.answered); left-room = rw (e, q) d.left-room; left-output = rw (e, q) (rw t at d.left-output) }
 
-          pub signed : Signed g a room out
-          signed = by_cases (too_few p (first_block p g) g.limit) few enough
+        pub signed : Signed g a room out
+        signed = by_cases (too_few p (first_block p g) g.limit) few enough
 
 -- ---- the promise settles the outcome
 

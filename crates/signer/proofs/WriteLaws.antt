@@ -6,7 +6,7 @@ use Prim.Native.Nat.{ℕ, zero, suc, ◌+◌, ◌%◌, ◌≤◌, ◌<◌}
 use native.Mathlib.Omega.{arith}
 use lib.Dec.{eqb}
 use lib.ListN.{take, replicate}
-use borrow.Author.Tests.{eq-eqb, ne_eqb}
+use borrow.Author.Tests.{eq-eqb}
 use Rattle.slices.specs.Slices.{Bytes}
 use Rattle.bits.specs.Bytes.{bytes_of}
 use Rattle.sets.specs.declared.Set.{Set}
@@ -51,10 +51,6 @@ take-zeros (suc n) (suc m) h = ap (λ (l : Bytes). 0 ∷ l) (take-zeros n m (ome
 -- beside value 0 zeros are shown
 pub no_share : {p : Set} → IsSet p → (e : ℕ) → e ≡ 0 → (vs : Bytes) → take (w p) (replicate {A = ℕ} 32 0) ≡ cond (eqb e 0) (replicate (w p) 0) vs
 no_share {p} h e z vs = rw (eq-eqb e 0 z) (take-zeros (w p) 32 (sizes h).width)
-
--- beside another the share itself
-pub some_share : (n e : ℕ) → (e ≡ 0 → ⊥) → {xs vs : Bytes} → xs ≡ vs → xs ≡ cond (eqb e 0) (replicate n 0) vs
-some_share n e z h = rw (ne_eqb e 0 z) h
 
 -- ---- what is shown of a round that was played
 

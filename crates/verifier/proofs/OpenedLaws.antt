@@ -1,9 +1,9 @@
 -- Laws of an opened round: input shares at the start of arrays, and what is recomputed from them.
 use mathlib.Core.Path.{◌≡◌, sym, ap, ◌∙◌}
-use Prim.Native.Nat.{ℕ, ◌-◌, ◌*◌, ◌≤◌}
+use Prim.Native.Nat.{ℕ, ◌-◌, ◌*◌}
 use native.Mathlib.Omega.{arith}
-use lib.ListN.{length, take, drop, length-drop}
-use lib.Seq.{take_at, length-take-le}
+use lib.ListN.{length, take, drop}
+use lib.Seq.{take_at}
 use Rattle.slices.specs.Slices.{Bytes, put, over}
 use Rattle.bits.specs.Bits.{Bits, ◌⊕◌, up_to}
 use Rattle.bits.specs.Bytes.{bits_of, bytes_of}
@@ -26,7 +26,7 @@ use Rattle.views.specs.Parties.{from_party, three}
 use Rattle.views.specs.Opened.{opened_share, tape₁, tape₂, opening, recomputed_transcript, recomputed_outputs, recomputed_commitments}
 use Rattle.views.proofs.PartiesLaws.{at_first, at_second}
 use Rattle.room.specs.Room.{shares_at, commitments_at, with_round}
-use Rattle.room.proofs.RoomLaws.{sizes, rest_as}
+use Rattle.room.proofs.RoomLaws.{rest_as}
 use Rattle.verifier.specs.declared.Opened.{Opened}
 use Rattle.verifier.specs.Opened.{OpenedAs}
 
@@ -111,14 +111,5 @@ module _ {p : Set} (h : IsSet p) (public : Bytes) (m : ℕ) (e : m ≡ w p) (l :
   pub plain_as : take (length public - m) (drop m public) ≡ plaintext p public
   plain_as = rest_as public m (w p) e
 
-  pub plain_small : length (take (length public - m) (drop m public)) ≤ 32
-  plain_small = omega (arith, ap length plain_as, length-drop (w p) public, (sizes h).width)
-
   pub cipher_as : take m public ≡ ciphertext p public
   cipher_as = ap (λ (k : ℕ). take k public) e
-
-  pub cipher-long : length (take m public) ≡ m
-  cipher-long = length-take-le m public (omega arith)
-
-  pub cipher-small : length (take m public) ≤ 32
-  cipher-small = omega (arith, cipher-long, (sizes h).width)

@@ -1,15 +1,15 @@
 // Verifying: checks, the rounds recomputed into the room, the challenge, and the verdict.
 #![tactic(auto, using(room::proofs::Fits::fits))]
 
-ghost use Rattle.std.specs.Prelude.{◌≡◌, ℕ, ◌+◌, ◌*◌, ◌≤◌, ◌<◌, length, take};
-ghost use Rattle.slices.specs.Slices.{Bytes, part, put, over, cleared, equal};
+ghost use Rattle.std.specs.Prelude.{◌≡◌, ◌+◌, ◌*◌, ◌≤◌, ◌<◌, length, take};
+ghost use Rattle.slices.specs.Slices.{Bytes, put};
 ghost use Rattle.bits.specs.Bits.{◌⊕◌};
 ghost use Rattle.bits.specs.Bytes.{bits_of, bytes_of};
 ghost use Rattle.bits.specs.Words.{block_bits};
 ghost use Rattle.bits.specs.Rows.{Rows, flat, Rowed};
 ghost use Rattle.sets.specs.Sets.{IsSet, numbered};
-ghost use Rattle.sets.specs.Lengths.{w, salt_length, header_length, public_length, room_length};
-ghost use Rattle.answers.specs.Answers.{Fine, first, answer};
+ghost use Rattle.sets.specs.Lengths.{w, public_length, room_length};
+ghost use Rattle.answers.specs.Answers.{first, answer};
 ghost use Rattle.circuit.specs.Round.{Party, next};
 ghost use Rattle.circuit.specs.Tapes.{party_number};
 ghost use Rattle.lowmc.specs.Lent.{cipher_of};
@@ -17,25 +17,24 @@ ghost use Rattle.lowmc.specs.Cipher.{cipher};
 ghost use Rattle.lowmc.specs.Encrypted.{ciphertext, plaintext};
 ghost use Rattle.round.specs.Engine.{RecomputedAs, Written};
 ghost use Rattle.round.specs.Inputs.{opening_of};
-ghost use Rattle.hashing.specs.Hashing.{h, commitment};
-ghost use Rattle.shape.specs.Header.{values};
-ghost use Rattle.shape.specs.Form.{form, values_in};
-ghost use Rattle.shape.specs.Reading.{read_checks};
-ghost use Rattle.parts.specs.Places.{Located, shown_by};
+ghost use Rattle.hashing.specs.Hashing.{commitment};
+ghost use Rattle.parts.specs.Places.{shown_by};
 ghost use Rattle.views.specs.Parties.{party_of, from_party, three};
 ghost use Rattle.views.specs.Signed.{tape_of};
 ghost use Rattle.views.specs.Opened.{opened_share, recomputed_outputs, recomputed_commitments};
-ghost use Rattle.views.specs.Input.{challenge_input, opened_outputs, opened_commitments, verifier_filling};
 ghost use Rattle.room.specs.Room.{shares_at, commitments_at, with_round};
 ghost use Rattle.verifier.specs.Opened.{OpenedAs};
-ghost use Rattle.verifier.specs.Verify.{Verified, length_checks, verdict_checks, first_block};
+ghost use Rattle.verifier.specs.Verify.{Verified, length_checks};
+
+mod verifying;
 
 use answers::Refusal;
 use bits::Block;
 use lowmc::Tables;
-use parts::{Here, Shown};
+use parts::Shown;
 use round::Again;
 use sets::Set;
+use verifying::Verifying;
 
 // What is opened of a round: the input shares of two parties, each at the start of an array, and what is recomputed.
 #[derive(Clone, Copy)]
@@ -224,97 +223,6 @@ fn fill_round(
     put_commitments(p, t, e, x, shown, room);
 }
 
-// Round t recomputed from where its parts stand in the signature.
-fn fill_at(tables: &Tables, public: &[u8], signature: &[u8], here: Here, t: usize, room: &mut [u8])
-    requires { (length public.now ≡ public_length tables.now.set) × (t < tables.now.set.t)
-        × (first (read_checks tables.now.set signature.now) ≡ Fine) × Located tables.now.set signature.now t here
-        × (room_length tables.now.set ≤ length room.old) }
-    ensures { room.new
-        ≡ with_round tables.now.set t
-        (three (opened_outputs tables.now.set (cipher tables.now) public.now (form tables.now.set signature.now) t))
-        (three (opened_commitments tables.now.set (cipher tables.now) public.now (form tables.now.set signature.now) t))
-        room.old }
-{
-    let from = tables.set.header();
-    let end = from + Set::SALT;
-    let q = here.parts;
-    let shown = Shown {
-        commitment: &signature[q.commitment..q.transcript],
-        transcript: &signature[q.transcript..q.seed1],
-        seed1: &signature[q.seed1..q.seed2],
-        seed2: &signature[q.seed2..q.share],
-        share: &signature[q.share..q.next],
-    };
-    let salt = &signature[from..end];
-    fill_round(tables, public, salt, t, here.value, &shown, room);
-}
-
-// All rounds recomputed: the room is filled with their output shares and commitments.
-fn fill(tables: &Tables, public: &[u8], signature: &[u8], room: &mut [u8])
-    requires { (length public.now ≡ public_length tables.now.set)
-        × (first (read_checks tables.now.set signature.now) ≡ Fine) × (room_length tables.now.set ≤ length room.old) }
-    ensures { (room.new
-        ≡ over
-        (verifier_filling tables.now.set (cipher tables.now) public.now (form tables.now.set signature.now))
-        room.old)
-        × (length (verifier_filling tables.now.set (cipher tables.now) public.now (form tables.now.set signature.now)) ≡ room_length tables.now.set) }
-{
-    let p = tables.set;
-    let mut cursor = parts::start(p);
-    for t in 0..p.t {
-        let here = parts::locate(p, signature, cursor);
-        fill_at(tables, public, signature, here, t, room);
-        cursor = here.next;
-    }
-}
-
-// The values are those of the signature's header.
-fn agrees(p: Set, found: &[u8], signature: &[u8]) -> bool
-    requires { IsSet p × (length found.now ≡ p.t) × (header_length p ≤ length signature.now) }
-    ensures { result ≡ equal found.now (values p signature.now) }
-{
-    let mut d = 0u8;
-    for (k, v) in found.iter().enumerate() {
-        d |= *v ^ parts::value(signature, k);
-    }
-    d == 0
-}
-
-// The verdict on a filled room: too few values, another challenge, or valid.
-fn judge(
-    p: Set,
-    filled: &[u8],
-    public: &[u8],
-    message: &[u8],
-    limit: u64,
-    signature: &[u8],
-) -> Result<(), Refusal>
-    requires { IsSet p × (header_length p + salt_length ≤ length signature.now) }
-    ensures { result
-        ≡ first
-        (verdict_checks p
-        (h p 1 (challenge_input filled.now (part signature.now (header_length p) salt_length) public.now message.now))
-        limit (values p signature.now)) }
-{
-    let t = p.t;
-    let from = p.header();
-    let end = from + Set::SALT;
-    let mut values = [0u8; 438];
-    room::challenge(
-        p,
-        filled,
-        &signature[from..end],
-        public,
-        message,
-        limit,
-        &mut values,
-    )?;
-    if agrees(p, &values[..t], signature) {
-        return Ok(());
-    }
-    Err(Refusal::Differs)
-}
-
 // Checks 2 to 6.
 fn check_lengths(
     p: Set,
@@ -347,43 +255,17 @@ fn check_lengths(
     Ok(())
 }
 
-// The rounds, the challenge and the verdict, for a signature that reads well; the room is cleared.
-fn verify_read(
-    tables: &Tables,
-    public: &[u8],
-    message: &[u8],
-    limit: u64,
-    room: &mut [u8],
-    signature: &[u8],
-) -> Result<(), Refusal>
-    requires { (length public.now ≡ public_length tables.now.set)
-        × (first (read_checks tables.now.set signature.now) ≡ Fine) × (room_length tables.now.set ≤ length room.old) }
-    ensures { (result
-        ≡ first
-        (verdict_checks tables.now.set
-        (first_block tables.now.set tables.now.keys.now tables.now.layers.now tables.now.constants.now public.now message.now (form tables.now.set signature.now))
-        limit (values_in tables.now.set (form tables.now.set signature.now))))
-        × (room.new ≡ cleared (room_length tables.now.set) room.old) }
-{
-    fill(tables, public, signature, room);
-    let p = tables.set;
-    let n = p.room_length();
-    let verdict = judge(p, &room[..n], public, message, limit, signature);
-    slices::clear(room, n);
-    verdict
-}
-
 // The verifying call.
-pub fn verify(
+pub fn verify<'a>(
     set: u64,
-    keys: &[u8],
-    layers: &[u8],
-    constants: &[u8],
-    public: &[u8],
+    keys: &'a [u8],
+    layers: &'a [u8],
+    constants: &'a [u8],
+    public: &'a [u8],
     message: &[u8],
     limit: u64,
     room: &mut [u8],
-    signature: &[u8],
+    signature: &'a [u8],
 ) -> Result<(), Refusal>
     ensures { Verified
         (record {
@@ -417,5 +299,10 @@ pub fn verify(
         layers,
         constants,
     };
-    verify_read(&tables, public, message, limit, room, signature)
+    let verifying = Verifying {
+        tables,
+        public,
+        signature,
+    };
+    verifying.verdict(message, limit, room)
 }

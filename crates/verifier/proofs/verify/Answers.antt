@@ -33,14 +33,22 @@ invariant_of-tables c =
     let g = handed 0 a.keys.now a.layers.now a.constants.now a.public.now a.message.now a.limit a.room.now a.signature.now in
     record { lent = (fitting (known_set a.set _ (sym c.numbered.ensures ∙ c.in_ok-p.ensures.ok_part)) g (sym c.in_ok-check_lengths.ensures)).lent }
 
-pub verify_read-requires : goal.verify_read-requires
-verify_read-requires c =
+pub invariant_of-verifying : goal.invariant_of-verifying
+invariant_of-verifying c =
     let a = c.args in
     let g = handed 0 a.keys.now a.layers.now a.constants.now a.public.now a.message.now a.limit a.room.now a.signature.now in
-    let f = fitting (known_set a.set _ (sym c.numbered.ensures ∙ c.in_ok-p.ensures.ok_part)) g (sym c.in_ok-check_lengths.ensures) in
-    (f.public-long, sym c.in_ok-check.ensures, f.room-enough)
+    record {
+      public_long = (fitting (known_set a.set _ (sym c.numbered.ensures ∙ c.in_ok-p.ensures.ok_part)) g (sym c.in_ok-check_lengths.ensures)).public-long;
+      reads = sym c.in_ok-check.ensures;
+    }
+
+pub verdict-requires : goal.verdict-requires
+verdict-requires c =
+    let a = c.args in
+    let g = handed 0 a.keys.now a.layers.now a.constants.now a.public.now a.message.now a.limit a.room.now a.signature.now in
+    (fitting (known_set a.set _ (sym c.numbered.ensures ∙ c.in_ok-p.ensures.ok_part)) g (sym c.in_ok-check_lengths.ensures)).room-enough
 
 pub returns : goal.returns
 returns c =
     judged _ _ (sym c.numbered.ensures ∙ c.in_ok-p.ensures.ok_part) (sym c.in_ok-check_lengths.ensures) (sym c.in_ok-check.ensures)
-    c.verify_read.ensures.0 refl c.verify_read.ensures.1
+    c.verdict.ensures.0 refl c.verdict.ensures.1
