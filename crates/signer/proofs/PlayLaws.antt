@@ -1,4 +1,4 @@
--- Laws of a round that is played: which party a number names, and what it has on words and in bytes.
+-- Laws of a round that is played: what it has on words and in bytes.
 use mathlib.Core.Path.{◌≡◌, refl, sym, ap, ◌∙◌, subst}
 use mathlib.Core.Bool.{false}
 use mathlib.Core.List.{List}

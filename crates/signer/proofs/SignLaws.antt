@@ -2,9 +2,9 @@
 use mathlib.Core.Path.{◌≡◌, refl, sym, ap, ◌∙◌, subst}
 use mathlib.Core.Bool.{Bool, true, false, not}
 use mathlib.Core.List.{List, [], ◌∷◌}
-use Prim.Native.Nat.{ℕ, ◌-◌, ◌*◌, ◌≤◌}
+use Prim.Native.Nat.{ℕ, ◌*◌, ◌≤◌}
 use native.Mathlib.Omega.{arith}
-use lib.ListN.{length, take, drop, length-append, length-drop}
+use lib.ListN.{length, take, length-append}
 use borrow.Author.Tests.{ltb-false}
 use Rattle.slices.specs.Slices.{Bytes, over, cleared, equal, joined}
 use Rattle.slices.proofs.SliceLaws.{length-joined}
@@ -13,7 +13,7 @@ use Rattle.bits.specs.Bytes.{bits_of, bytes_of, width}
 use Rattle.sets.specs.declared.Set.{Set}
 use Rattle.sets.specs.declared.Chosen.TheVariants.{Known, Unknown}
 use Rattle.sets.specs.Sets.{IsSet, numbered}
-use Rattle.sets.specs.Lengths.{w, seed_width, public_length, room_length, seeds_length, longest}
+use Rattle.sets.specs.Lengths.{w, public_length, room_length, seeds_length, longest}
 use Rattle.answers.specs.declared.Refusal.{Refusal}
 use Rattle.answers.specs.declared.Refusal.TheVariants.{Fine, NoSet, Pair, Blocks}
 use Rattle.answers.specs.Answers.{Check, when, first, fine, answer}
@@ -24,7 +24,6 @@ use Rattle.circuit.specs.Lowmc.{Cipher, encryption}
 use Rattle.circuit.specs.Round.{Party}
 use Rattle.lowmc.specs.Lent.{cipher_of, Lent}
 use Rattle.lowmc.specs.Encrypted.{encrypted, plaintext, ciphertext}
-use Rattle.lowmc.proofs.LentLaws.{block_small}
 use Rattle.round.specs.Engine.{Traced}
 use Rattle.bits.specs.Words.{block_bits}
 use Rattle.lowmc.specs.Vectors.{at}
@@ -41,11 +40,10 @@ use Rattle.views.specs.Parties.{three}
 use Rattle.views.specs.Signed.{salt_at}
 use Rattle.views.specs.Input.{by_round, filling, challenge_input, signed_outputs, signed_commitments, signer_filling}
 use Rattle.room.specs.Room.{clears, room_after}
-use Rattle.room.proofs.RoomLaws.{sizes, take_as, filled-from, rest_as}
+use Rattle.room.proofs.RoomLaws.{sizes, take_as, filled-from}
 use Rattle.room.proofs.AfterLaws.{filled_front, filled-cleared, keeps_first}
 use Rattle.signer.specs.Sign.{Given, Signed, cipher, length_checks, first_block, checks, signature_for, signature_of, refusal_for, signature_by, written, SameSigned}
 use Rattle.signer.specs.Finished.{Finished}
-use Rattle.signer.proofs.SeedLaws.{salt_part}
 use Rattle.signer.proofs.PlayLaws.{length-outputs, length-commitments}
 
 -- what a host hands in
@@ -66,12 +64,6 @@ handed set_number keys layers constants secret public message limit seeds room o
 
 -- ---- the key pair
 
--- the lent plaintext is a block, where m is the code's width
-pub plaintext-small : {p : Set} → IsSet p → (public : Bytes) (m : ℕ) → m ≡ w p → length public ≡ public_length p
-    → length (take (length public - m) (drop m public)) ≤ 32
-plaintext-small {p} i public m e q =
-    block_small i (take (length public - m) (drop m public)) (ap length (rest_as public m (w p) e) ∙ (length-drop (w p) public ∙ omega arith))
-
 -- what is compared is the encryption and the ciphertext, where m is the code's width
 pub paired_is : (p : Set) (states : List Block) (public cs : Bytes) (x : Bits) (m : ℕ) (b : Bool) → m ≡ w p → take (w p) cs ≡ bytes_of p.n x
     → x ≡ block_bits (at states p.r) → b ≡ equal (take m cs) (take m public)
@@ -81,15 +73,6 @@ unfolding encrypted encryption
 paired_is p states public cs x m b e ec ex eb keys layers constants secret block tr =
     let q = take_as cs (w p) m _ e (ec ∙ ap (bytes_of p.n) (ex ∙ tr p.r (omega arith))) in
     eb ∙ λ i. equal (q i) (take (e i) public)
-
--- ---- the challenge
-
--- it is drawn from the needed bytes of the room and the salt, where n is the code's room and x its width of a seed
-pub challenged_as : (p : Set) (seeds public message room : Bytes) (n x limit : ℕ) {before after : Bytes} {d : Filled} → n ≡ room_length p → x ≡ seed_width p
-    → Fills p (h p 1 (challenge_input (take n room) (take (length seeds - 3 * p.t * x) (drop (3 * p.t * x) seeds)) public message)) limit before d after
-    → Fills p (h p 1 (challenge_input (take (room_length p) room) (salt_at p seeds) public message)) limit before d after
-challenged_as p seeds public message room n x limit en ex f =
-    filled-from p _ _ limit _ _ _ (λ i. h p 1 (challenge_input (take (en i) room) (salt_part p seeds x ex i) public message)) f
 
 -- ---- what is left after the challenge
 

@@ -2,24 +2,22 @@
 use mathlib.Core.Path.{◌≡◌, refl, ap, ◌∙◌}
 use mathlib.Core.Bool.{Bool, true, false, cond}
 use mathlib.Core.List.{◌∷◌}
-use Prim.Native.Nat.{ℕ, zero, suc, ◌+◌, ◌-◌, ◌*◌, ◌%◌, ◌≤◌, ◌<◌}
+use Prim.Native.Nat.{ℕ, zero, suc, ◌+◌, ◌%◌, ◌≤◌, ◌<◌}
 use native.Mathlib.Omega.{arith}
 use lib.Dec.{eqb}
-use lib.ListN.{length, take, drop, replicate}
-use lib.Seq.{length-take-le}
+use lib.ListN.{take, replicate}
 use borrow.Author.Tests.{eq-eqb, ne_eqb}
 use Rattle.slices.specs.Slices.{Bytes}
 use Rattle.bits.specs.Bytes.{bytes_of}
 use Rattle.sets.specs.declared.Set.{Set}
 use Rattle.sets.specs.Sets.{IsSet}
-use Rattle.sets.specs.Lengths.{w, seed_width, transcript_length, seeds_length}
+use Rattle.sets.specs.Lengths.{w, transcript_length}
 use Rattle.circuit.specs.Lowmc.{Cipher}
 use Rattle.circuit.specs.Round.{Party, party0, party1, party2, next, third}
 use Rattle.circuit.specs.Tapes.{party_number}
 use Rattle.lowmc.specs.Lent.{cipher_of}
 use Rattle.round.specs.Engine.{share_in}
 use Rattle.round.proofs.InputsLaws.{next-number}
-use Rattle.shape.specs.Form.{Shown, Sized}
 use Rattle.parts.specs.Places.{showing}
 use Rattle.views.specs.Parties.{party_of}
 use Rattle.views.specs.Signed.{seed_at, salt_at, tapes, shares, commitments, shown_share, shown}
@@ -27,7 +25,6 @@ use Rattle.views.proofs.PartiesLaws.{number_of}
 use Rattle.room.proofs.RoomLaws.{sizes}
 use Rattle.signer.specs.declared.Played.{Played}
 use Rattle.signer.specs.Played.{said_by, PlayedAs}
-use Rattle.signer.proofs.SeedLaws.{seed_part, length_seed}
 
 -- ---- parties by number
 
@@ -58,41 +55,6 @@ no_share {p} h e z vs = rw (eq-eqb e 0 z) (take-zeros (w p) 32 (sizes h).width)
 -- beside another the share itself
 pub some_share : (n e : ℕ) → (e ≡ 0 → ⊥) → {xs vs : Bytes} → xs ≡ vs → xs ≡ cond (eqb e 0) (replicate n 0) vs
 some_share n e z h = rw (ne_eqb e 0 z) h
-
--- ---- a round's parts, by the code's lengths m of a transcript, k of a share and s of a seed
-
-module _ (p : Set) (t e m k s : ℕ) (em : m ≡ transcript_length p) (ek : k ≡ w p) (es : s ≡ seed_width p) (commitment said share seeds : Bytes) where
-  abbrev first_at : ℕ
-  first_at = (3 * t + e) * s
-
-  abbrev second_at : ℕ
-  second_at = (3 * t + (e + 1) % 3) * s
-
-  -- what is lent of them
-  abbrev lent : Shown
-  lent =
-      showing (take p.digest commitment) (take m said) (take (first_at + s - first_at) (drop first_at seeds))
-      (take (second_at + s - second_at) (drop second_at seeds)) (take k share)
-
-  pub lent-sized : IsSet p → length commitment ≡ 64 → length said ≡ 143 → length share ≡ 32 → length seeds ≡ seeds_length p → t < p.t → e < 3
-      → Sized p lent
-  lent-sized h lc ls lx le l n = record {
-    commitment = length-take-le p.digest commitment (omega (arith, (sizes h).digest));
-    transcript = length-take-le m said (omega (arith, (sizes h).transcript)) ∙ em;
-    seed1 = ap length (seed_part p seeds s es t e (party_of e) (number_of e n)) ∙ length_seed p seeds t le l (party_of e);
-    seed2 =
-        ap length (seed_part p seeds s es t ((e + 1) % 3) (next (party_of e)) (number_after e n)) ∙ length_seed p seeds t le l (next (party_of e));
-    share = length-take-le k share (omega (arith, (sizes h).width)) ∙ ek;
-  }
-
-  -- they are the parts of parties e and e+1
-  pub lent_parts : e < 3
-      → lent ≡ showing (take p.digest commitment) (take (transcript_length p) said) (seed_at p seeds t (party_of e)) (seed_at p seeds t (next (party_of e)))
-      (take (w p) share)
-  lent_parts n =
-      let a = seed_part p seeds s es t e (party_of e) (number_of e n) in
-      let b = seed_part p seeds s es t ((e + 1) % 3) (next (party_of e)) (number_after e n) in
-      λ i. showing (take p.digest commitment) (take (em i) said) (a i) (b i) (take (ek i) share)
 
 -- ---- what is shown of a round that was played
 

@@ -6,9 +6,9 @@ use Rattle.bits.specs.Bytes.{bits_of, bytes_of, width}
 use Rattle.sets.specs.declared.Set.{Set}
 use Rattle.sets.specs.Lengths.{w, public_length, seeds_length}
 use Rattle.circuit.specs.Lowmc.{Cipher}
-use Rattle.circuit.specs.Round.{Party, party0, party1, party2, by_party}
+use Rattle.circuit.specs.Round.{Party}
 use Rattle.bits.specs.declared.Block.{Block}
-use Rattle.circuit.specs.Tapes.{party_number, gate_bits, tape_length}
+use Rattle.circuit.specs.Tapes.{party_number, gate_bits}
 use Rattle.lowmc.specs.Lent.{cipher_of, Lent}
 use Rattle.lowmc.specs.Encrypted.{plaintext}
 use Rattle.round.specs.Engine.{share_in, Traced}
@@ -24,10 +24,6 @@ pub record PlayedAs (L : Cipher) (secret : Bytes) (tapes : Party → Bytes) (p :
   pub inputs : (j : Party) → bytes_of L.n (share_in r.inputs j) ≡ shares L secret tapes j
   pub outputs : (j : Party) → bytes_of L.n (share_in r.outputs j) ≡ outputs L secret tapes p j
   pub said : (j : Party) → take (width (gate_bits L)) (said_by r j) ≡ transcripts L secret tapes p j
-
--- three tapes, each at the start of bytes
-abbrev pub tapes_in : Cipher → (t0 t1 t2 : Bytes) → Party → Bytes
-tapes_in L t0 t1 t2 = by_party (take (tape_length L party0) t0) (take (tape_length L party1) t1) (take (tape_length L party2) t2)
 
 -- what the checks of lengths leave for the rounds, and the states of the encryption
 pub record Ready (set : Set) (keys layers constants secret public seeds : Bytes) (states : List Block) : Type 0 where

@@ -49,22 +49,6 @@ module _ (p : Set) (j : ℕ) (tape given r : Bytes) where
   share-taken h x e l keys layers constants party1 q = l ∙ (ap (bytes_of p.n) e ∙ bytes_of_cong p.n _ _ (λ i b. up_to_in p.n _ i b))
   share-taken h x e l keys layers constants party2 q = absurd (h q)
 
--- recomputed from shares whose bits are at hand
-pub recomputed-from : (C : Cipher) (block block' : Bits) (e : Party) (x x' y y' : Bits) (tape1 tape2 given : Bytes) (v : Again)
-    → block ≡ block' → x ≡ x' → y ≡ y'
-    → RecomputedAs C block e (opening_of C e x y tape1 tape2 given) v → RecomputedAs C block' e (opening_of C e x' y' tape1 tape2 given) v
-recomputed-from C block block' e x x' y y' tape1 tape2 given v eb ex ey h = rw (← eb, ← ex, ← ey) h
-
--- opened over tapes that are at hand
-pub opened_over : (C : Cipher) (e : Party) (s s' u u' share transcript block : Bytes) (r : Opened) → s ≡ s' → u ≡ u'
-    → OpenedAs C e s u share transcript block r → OpenedAs C e s' u' share transcript block r
-opened_over C e s s' u u' share transcript block r es eu h = rw (← es, ← eu) h
-
--- three in their places, each as it is known
-pub put_three : (s : Bytes) (at e : ℕ) (x x' y y' z : Bytes) {r : Bytes} → x ≡ x' → y ≡ y'
-    → r ≡ put s at (three (from_party (party_of e) x y z)) → r ≡ put s at (three (from_party (party_of e) x' y' z))
-put_three s at e x x' y y' z ex ey h = h ∙ λ i. put s at (three (from_party (party_of e) (ex i) (ey i) z))
-
 -- what is opened of a round gives its output shares and commitments
 module _ (p : Set) (keys layers constants salt : Bytes) (t : ℕ) (e : Party) (u : Shown) (block cipher : Bytes) (r : Opened) where
   abbrev C : Cipher

@@ -1,5 +1,5 @@
 // Verifying: checks, the rounds recomputed into the room, the challenge, and the verdict.
-#![tactic(auto)]
+#![tactic(auto, using(room::proofs::Fits::fits))]
 
 ghost use Rattle.std.specs.Prelude.{◌≡◌, ℕ, ◌+◌, ◌*◌, ◌≤◌, ◌<◌, length, take};
 ghost use Rattle.slices.specs.Slices.{Bytes, part, put, over, cleared, equal};

@@ -18,13 +18,3 @@ transcribed-requires-2 c = (c.requires.0, c.requires.1 party1)
 
 pub transcribed-requires-3 : goal.transcribed-requires-3
 transcribed-requires-3 c = (c.requires.0, c.requires.1 party2)
-
-pub returns : goal.returns
-returns c =
-    let a = c.args in
-    let p = a.p in (
-      refl,
-      refl,
-      three (λ j. (u : Rows) → Written (3 * p.s) p.r u (said a.v j) → take (transcript_length p) _ ≡ bytes_of (3 * p.s * p.r) (flat (3 * p.s) u))
-          c.transcribed.ensures c.transcribed-2.ensures c.transcribed-3.ensures,
-    )

@@ -5,6 +5,3 @@ use Rattle.signer.proofs.shown_share.Goals as goal
 
 pub returns-then-e-eq0 : goal.returns-then-e-eq0
 returns-then-e-eq0 c = no_share c.requires _ c.if-e-eq0.true _
-
-pub returns : goal.returns
-returns c = some_share (w c.args.p) c.args.e c.if-e-eq0.false c.stored.ensures

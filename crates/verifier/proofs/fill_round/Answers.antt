@@ -13,17 +13,6 @@ use Rattle.verifier.proofs.OpenedLaws.{round_filled, plain_as, plain_small, ciph
 use borrow.Author.Rules.{rules}
 use Rattle.verifier.proofs.fill_round.Goals as goal
 
-pub open-x-requires : goal.open-x-requires
-open-x-requires c =
-    let h = c.requires in
-    let i = c.args.tables.now.lent.is_set in
-    (omega (arith, h.1, (sizes i).rounds), h.2, plain_small i c.args.public.now _ c.width-w.ensures h.0, h.4, h.5)
-
-pub put_outputs-requires : goal.put_outputs-requires
-put_outputs-requires c =
-    let h = c.requires in
-    (c.args.tables.now.lent.is_set, h.1, h.6, cipher-small c.args.tables.now.lent.is_set c.args.public.now _ c.width-w.ensures h.0)
-
 pub put_commitments-requires : goal.put_commitments-requires
 put_commitments-requires c =
     let a = c.args in
