@@ -1,6 +1,5 @@
 -- `signer::shown_share` meets its contract.
-use Rattle.sets.specs.Lengths.{w}
-use Rattle.signer.proofs.WriteLaws.{no_share, some_share}
+use Rattle.signer.proofs.WriteLaws.{no_share}
 use Rattle.signer.proofs.shown_share.Goals as goal
 
 pub returns-then-e-eq0 : goal.returns-then-e-eq0
