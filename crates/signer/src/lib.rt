@@ -83,10 +83,10 @@ fn refused(
 }
 
 // What the signer has of a round that was simulated from these input shares.
-fn in_bytes(p: Set, inputs: [Block; 3], v: View) -> Played
-    requires { IsSet p × ((j : Party) → Rowed (3 * p.s) p.r (said v j)) }
-    ensures { (result.inputs ≡ inputs) × (result.outputs ≡ v.out)
-        × ((j : Party) (u : Rows) → Written (3 * p.s) p.r u (said v j) → take (transcript_length p) (said_by result j) ≡ bytes_of (3 * p.s * p.r) (flat (3 * p.s) u)) }
+fn in_bytes(p: Set, inputs: [Block; 3], v: &View) -> Played
+    requires { IsSet p × ((j : Party) → Rowed (3 * p.s) p.r (said v.now j)) }
+    ensures { (result.inputs ≡ inputs) × (result.outputs ≡ v.now.out)
+        × ((j : Party) (u : Rows) → Written (3 * p.s) p.r u (said v.now j) → take (transcript_length p) (said_by result j) ≡ bytes_of (3 * p.s * p.r) (flat (3 * p.s) u)) }
 {
     Played {
         inputs,
