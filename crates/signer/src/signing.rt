@@ -85,7 +85,8 @@ impl Signing<'_> {
         in_bytes(p, x, &v)
     }
 
-    // Round t, from the lent seeds.
+    // Round t, from the lent seeds. In the frame of the caller, so that its tapes and what it leaves are not on the stack twice.
+    #[inline(always)]
     fn played(&self, t: usize) -> Played
         requires { t < self.now.tables.set.t }
         ensures { PlayedIn self.now t result }
