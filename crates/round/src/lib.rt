@@ -257,15 +257,16 @@ pub fn simulate(
     ensures { Simulated (cipher tables.now) (block_bits plain) (share_in x)
         (tapes_of (cipher tables.now) t0.now t1.now t2.now) result }
 {
-    let mut s = begin(tables, x, plain, states[0]);
-    let mut said = [Strip { words: [0; 40] }; 3];
+    let mut v = View {
+        out: begin(tables, x, plain, states[0]),
+        said: [Strip { words: [0; 40] }; 3],
+    };
     for i in 0..tables.set.r {
-        let g = gate_rows(tables.set, s, rows_at(tables.set, t0, t1, t2, i));
-        put_rows(&mut said, i, g);
-        let next = step(tables, i, x, s, g, states[i + 1]);
-        s = next;
+        let g = gate_rows(tables.set, v.out, rows_at(tables.set, t0, t1, t2, i));
+        put_rows(&mut v.said, i, g);
+        v.out = step(tables, i, x, v.out, g, states[i + 1]);
     }
-    View { out: s, said }
+    v
 }
 
 // The rows of gates from bit at of s on.

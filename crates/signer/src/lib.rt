@@ -80,21 +80,23 @@ fn check_lengths(
     Ok(())
 }
 
-// What the signer has of a round that was simulated from these input shares.
-fn in_bytes(p: Set, inputs: [Block; 3], v: View) -> Played
-    requires { IsSet p × ((j : Party) → Rowed (3 * p.s) p.r (said v j)) }
-    ensures { (result.inputs ≡ inputs) × (result.outputs ≡ v.out)
-        × ((j : Party) (u : Rows) → Written (3 * p.s) p.r u (said v j) → take (transcript_length p) (said_by result j) ≡ bytes_of (3 * p.s * p.r) (flat (3 * p.s) u)) }
+// What the signer has of a round that was simulated from these input shares. In a frame of its own: its copies are not on the stack
+// while a round is simulated.
+#[inline(never)]
+fn in_bytes(p: Set, inputs: [Block; 3], v: &View) -> Played
+    requires { IsSet p × ((j : Party) → Rowed (3 * p.s) p.r (said v.now j)) }
+    ensures { (result.inputs ≡ inputs) × (result.outputs ≡ v.now.out)
+        × ((j : Party) (u : Rows) → Written (3 * p.s) p.r u (said v.now j) → take (transcript_length p) (said_by result j) ≡ bytes_of (3 * p.s * p.r) (flat (3 * p.s) u)) }
 {
-    Played {
+    let mut x = Played {
         inputs,
         outputs: v.out,
-        said: [
-            room::transcribed(p, v.said[0]),
-            room::transcribed(p, v.said[1]),
-            room::transcribed(p, v.said[2]),
-        ],
-    }
+        said: [[0; 143]; 3],
+    };
+    x.said[0] = room::transcribed(p, v.said[0]);
+    x.said[1] = room::transcribed(p, v.said[1]);
+    x.said[2] = room::transcribed(p, v.said[2]);
+    x
 }
 
 // The commitment to a seed and what a party had, at the start of an array.

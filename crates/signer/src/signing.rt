@@ -69,7 +69,9 @@ impl Signing<'_> {
         room::party_tape(p, &self.seeds[at..end], &self.seeds[salt..], t, j)
     }
 
-    // A round over its three tapes.
+    // A round over its three tapes. Never in the frame of the caller, who hashes: so hashing and the simulation do not use the stack
+    // at the same time.
+    #[inline(never)]
     fn play(&self, t0: &[u8], t1: &[u8], t2: &[u8]) -> Played
         requires { (w self.now.tables.set ≤ length t0.now) × (w self.now.tables.set ≤ length t1.now) }
         ensures { PlayedAs (cipher self.now.tables) self.now.secret.now (by_party t0.now t1.now t2.now)
@@ -80,10 +82,11 @@ impl Signing<'_> {
         let x = round::input_shares(p, Block::load(self.secret), t0, t1);
         let plain = Block::load(&self.public[w..]);
         let v = round::simulate(&self.tables, x, plain, t0, t1, t2, self.states);
-        in_bytes(p, x, v)
+        in_bytes(p, x, &v)
     }
 
-    // Round t. Its tapes are derived before it is simulated: so hashing and the simulation do not use the stack at the same time.
+    // Round t, from the lent seeds. In the frame of the caller, so that its tapes and what it leaves are not on the stack twice.
+    #[inline(always)]
     fn played(&self, t: usize) -> Played
         requires { t < self.now.tables.set.t }
         ensures { PlayedIn self.now t result }

@@ -14,7 +14,7 @@ loop-i-init c =
     record {
       rounds = most (λ (q : Set). q.r) 38 tt tt tt c.args.tables.now.lent.is_set;
       size = three _ refl refl refl;
-      done = done_none _ _ _ _ 40 _ _ _ (three _ refl refl refl) (c.requires 0 (omega arith)) c.begin-s.ensures;
+      done = done_none _ _ _ _ 40 _ _ _ (three _ refl refl refl) (c.requires 0 (omega arith)) c.begin.ensures;
     }
 
 pub loop-i-preserved : goal.loop-i-preserved
@@ -28,7 +28,7 @@ loop-i-preserved c =
       done =
           done_more _ _ _ _ l.i _ _ _ _ _ _ _ c.loop-i-test.true (λ j. omega (arith, v.rounds, v.size j)) c.put_rows.ensures
           (c.rows_at.ensures t.keys.now t.layers.now t.constants.now) c.gate_rows-g.ensures
-          (c.requires (l.i + 1) (omega arith)) c.step-next.ensures v.done;
+          (c.requires (l.i + 1) (omega arith)) c.step-v.ensures v.done;
     }
 
 pub returns : goal.returns
