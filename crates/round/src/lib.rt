@@ -48,9 +48,9 @@ fn gate_row(p: Set, x: Block, y: Block, t: u64, u: u64) -> u64
 }
 
 // The gates of a layer for the three parties.
-fn gate_rows(p: Set, s: [Block; 3], t: [u64; 3]) -> [u64; 3]
+fn gate_rows(p: Set, s: &[Block; 3], t: [u64; 3]) -> [u64; 3]
     requires { IsSet p }
-    ensures { (j : Party) → row_of result j ≡ up_to (3 * p.s) (gates (share_in s j) (share_in s (next j)) (row_of t j) (row_of t (next j))) }
+    ensures { (j : Party) → row_of result j ≡ up_to (3 * p.s) (gates (share_in s.now j) (share_in s.now (next j)) (row_of t j) (row_of t (next j))) }
 {
     [
         gate_row(p, s[0], s[1], t[0], t[1]),
@@ -174,8 +174,8 @@ fn with_third(x: [Block; 2], whole: Block) -> [Block; 3]
 }
 
 // The three states before the first round. The third is what the first two lack of the encryption's: a product less.
-fn begin(tables: &Tables, x: [Block; 3], plain: Block, whole: Block) -> [Block; 3]
-    ensures { Begun (cipher tables.now) (block_bits plain) (share_in x) (block_bits whole) (share_in result) }
+fn begin(tables: &Tables, x: &[Block; 3], plain: Block, whole: Block) -> [Block; 3]
+    ensures { Begun (cipher tables.now) (block_bits plain) (share_in x.now) (block_bits whole) (share_in result) }
 {
     let y = start_shares(tables, [x[0], x[1]], [true, false], plain);
     with_third(y, whole)
@@ -185,13 +185,13 @@ fn begin(tables: &Tables, x: [Block; 3], plain: Block, whole: Block) -> [Block; 
 fn step(
     tables: &Tables,
     i: usize,
-    x: [Block; 3],
+    x: &[Block; 3],
     s: [Block; 3],
     g: [u64; 3],
     whole: Block,
 ) -> [Block; 3]
     requires { i < tables.now.set.r }
-    ensures { Stepped (cipher tables.now) i (share_in x) (share_in s) (row_of g) (block_bits whole) (share_in result) }
+    ensures { Stepped (cipher tables.now) i (share_in x.now) (share_in s) (row_of g) (block_bits whole) (share_in result) }
 {
     let y = advance_shares(
         tables,
@@ -258,13 +258,13 @@ pub fn simulate(
         (tapes_of (cipher tables.now) t0.now t1.now t2.now) result }
 {
     let mut v = View {
-        out: begin(tables, x, plain, states[0]),
+        out: begin(tables, &x, plain, states[0]),
         said: [Strip { words: [0; 40] }; 3],
     };
     for i in 0..tables.set.r {
-        let g = gate_rows(tables.set, v.out, rows_at(tables.set, t0, t1, t2, i));
+        let g = gate_rows(tables.set, &v.out, rows_at(tables.set, t0, t1, t2, i));
         put_rows(&mut v.said, i, g);
-        v.out = step(tables, i, x, v.out, g, states[i + 1]);
+        v.out = step(tables, i, &x, v.out, g, states[i + 1]);
     }
     v
 }

@@ -80,9 +80,7 @@ fn check_lengths(
     Ok(())
 }
 
-// What the signer has of a round that was simulated from these input shares. In a frame of its own: its copies are not on the stack
-// while a round is simulated.
-#[inline(never)]
+// What the signer has of a round that was simulated from these input shares.
 fn in_bytes(p: Set, inputs: [Block; 3], v: &View) -> Played
     requires { IsSet p × ((j : Party) → Rowed (3 * p.s) p.r (said v.now j)) }
     ensures { (result.inputs ≡ inputs) × (result.outputs ≡ v.now.out)
