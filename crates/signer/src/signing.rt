@@ -40,7 +40,7 @@ impl Signing<'_> {
     ghost use Rattle.room.specs.Room.{commitments_at, with_round};
     ghost use Rattle.signer.specs.Played.{PlayedAs};
     ghost use Rattle.signer.specs.Sign.{signature_for};
-    ghost use Rattle.signer.specs.Making.{tapes_of, outputs_of, commitments_of, shown_of, PlayedIn};
+    ghost use Rattle.signer.specs.Making.{round_tapes, outputs_of, commitments_of, shown_of, PlayedIn};
 
     // Whether the last state of the encryption is the ciphertext of the public key. Every byte is looked at.
     pub fn paired(&self) -> bool
@@ -59,7 +59,7 @@ impl Signing<'_> {
     // The tape of party j in round t from the lent seeds, at the start of an array.
     fn seeded_tape(&self, t: usize, j: usize) -> [u8; 175]
         requires { (t < self.now.tables.set.t) × (j < 3) }
-        ensures { (k : Party) → j ≡ party_number k → take (tape_length (cipher self.now.tables) k) result ≡ tapes_of self.now t k }
+        ensures { (k : Party) → j ≡ party_number k → take (tape_length (cipher self.now.tables) k) result ≡ round_tapes self.now t k }
     {
         let p = self.tables.set;
         let w = p.seed_width();

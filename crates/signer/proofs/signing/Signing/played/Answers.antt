@@ -3,7 +3,7 @@ use mathlib.Core.Path.{refl}
 use Rattle.circuit.specs.Round.{party0, party1, party2}
 use Rattle.lowmc.specs.Cipher.{cipher}
 use Rattle.room.proofs.RoomLaws.{take_as}
-use Rattle.signer.specs.Making.{tapes_of}
+use Rattle.signer.specs.Making.{round_tapes}
 use Rattle.signer.proofs.PlayLaws.{played_over}
 use Rattle.signer.proofs.signing.Signing.played.Goals as goal
 
