@@ -12,6 +12,6 @@ returns c =
     let s = c.args.self.now in
     let m = c.tape_length-m.ensures.1 s.tables.keys.now s.tables.layers.now s.tables.constants.now party0 refl in
     let n = c.tape_length-n.ensures.1 s.tables.keys.now s.tables.layers.now s.tables.constants.now party2 refl in
-    played_over (cipher s.tables) s.secret.now _ _ _ (tapes_of s c.args.t) _ _ _
+    played_over (cipher s.tables) s.secret.now _ _ _ (round_tapes s c.args.t) _ _ _
     (take_as _ _ _ _ m (c.seeded_tape-t0.ensures party0 refl)) (take_as _ _ _ _ m (c.seeded_tape-t1.ensures party1 refl))
     (take_as _ _ _ _ n (c.seeded_tape-t2.ensures party2 refl)) refl c.play.ensures
