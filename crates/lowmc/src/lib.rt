@@ -303,7 +303,7 @@ pub fn encrypt_call(
     Ok(n as u32)
 }
 
-// The call that forms a public key.
+// The call that forms a public key. It is apart from the one above: its outcome is another, and so are its length and its promise.
 pub fn public_key_call(
     set: u64,
     keys: &[u8],
