@@ -45,9 +45,7 @@ pub fn picnic_encrypt(
 ) -> u64
     ensures { EncryptPromise set keys.now layers.now constants.now secret.now block.now output.old result output.new }
 {
-    answer(lowmc::encrypt_call(
-        set, keys, layers, constants, secret, block, output,
-    ))
+    answer(lowmc::encrypt_call(set, keys, layers, constants, secret, block, output))
 }
 
 // The public key of a secret key and a plaintext block, at the start of output.
@@ -62,9 +60,7 @@ pub fn picnic_public_key(
 ) -> u64
     ensures { PublicKeyPromise set keys.now layers.now constants.now secret.now block.now output.old result output.new }
 {
-    answer(lowmc::public_key_call(
-        set, keys, layers, constants, secret, block, output,
-    ))
+    answer(lowmc::public_key_call(set, keys, layers, constants, secret, block, output))
 }
 
 // The T values of a challenge from at most limit blocks, one a byte, at the start of output.
