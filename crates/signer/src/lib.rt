@@ -148,11 +148,10 @@ fn challenged(
 {
     let p = signing.tables.set;
     let n = p.room_length();
-    let from = 3 * p.t * p.seed_width();
     room::challenge(
         p,
         &room[..n],
-        &signing.seeds[from..],
+        signing.salt(),
         signing.public,
         message,
         limit,
