@@ -1,16 +1,16 @@
 -- Laws of the signature that the signer writes: header and salt, then round by round, up to the whole.
 use mathlib.Core.Path.{◌≡◌, sym, ap, ◌∙◌}
 use mathlib.Core.List.{◌++◌, append_assoc}
-use Prim.Native.Nat.{ℕ, ◌+◌, ◌-◌, ◌*◌, ◌≤◌, ◌<◌}
+use Prim.Native.Nat.{ℕ, ◌+◌, ◌*◌, ◌≤◌, ◌<◌}
 use native.Mathlib.Omega.{arith}
 use native.Mathlib.Numerals.{add-one}
-use lib.ListN.{length, take, drop, get_or, length-append, length-replicate}
+use lib.ListN.{length, get_or, length-append, length-replicate}
 use Rattle.slices.specs.Slices.{Bytes, put, over, joined}
 use Rattle.slices.proofs.SliceLaws.{over-put, put-none, length-put}
 use Rattle.bits.proofs.BytesLaws.{length-bytes_of}
 use Rattle.sets.specs.declared.Set.{Set}
 use Rattle.sets.specs.Sets.{IsSet}
-use Rattle.sets.specs.Lengths.{w, seed_width, salt_length, header_length, seeds_length, longest}
+use Rattle.sets.specs.Lengths.{w, salt_length, header_length, seeds_length, longest}
 use Rattle.circuit.specs.Lowmc.{Cipher}
 use Rattle.circuit.specs.Round.{Party, party0, party1, party2, next}
 use Rattle.lowmc.specs.Lent.{cipher_of}
