@@ -12,7 +12,7 @@ use Rattle.slices.specs.Slices.{Bytes, over}
 use Rattle.sets.specs.declared.Set.{Set}
 use Rattle.answers.specs.declared.Refusal.{Refusal}
 use Rattle.answers.specs.declared.Refusal.TheVariants.{NoSet}
-use Rattle.answers.specs.Answers.{Fine, Check, when, first, back}
+use Rattle.answers.specs.Answers.{Fine, Check, when, first, as_answer}
 use Rattle.answers.specs.Outcome.{Outcome, refused, gives, unless, behind, with_set, answer_of, left_by, Promise, SameEnd}
 
 pub same : SameEnd
@@ -51,12 +51,12 @@ behind_passes b r o e = rw e
 -- ---- how a call meets its promise: r is what its function answers, and the host gets the number of that
 
 -- it refuses, and keeps the output
-pub promise_refused : (o : Outcome) (x : Refusal) (out : Bytes) {r : Result ℕ Refusal} → o ≡ refused x → r ≡ Err x → Promise o out (back r) out
+pub promise_refused : (o : Outcome) (x : Refusal) (out : Bytes) {r : Result ℕ Refusal} → o ≡ refused x → r ≡ Err x → Promise o out (as_answer r) out
 unfolding answer_of left_by
 promise_refused o x out {r} e a = record { answered = rw (e, a); left = rw e }
 
 -- it gives bytes, over the start of the output
-pub promise_given : (o : Outcome) (vs out after : Bytes) (n : ℕ) → o ≡ gives vs → n ≡ length vs → after ≡ over vs out → Promise o out (back (Ok n)) after
+pub promise_given : (o : Outcome) (vs out after : Bytes) (n : ℕ) → o ≡ gives vs → n ≡ length vs → after ≡ over vs out → Promise o out (as_answer (Ok n)) after
 unfolding answer_of left_by
 promise_given o vs out after n e l k = record { answered = rw (e, l); left = rw e k }
 

@@ -52,9 +52,9 @@ abbrev pub answer : Checked → ℕ → ℕ
 answer c length = code c * 2 ^ 32 + length
 
 -- of a call that refuses, or tells the bytes written
-abbrev pub back : Result ℕ Refusal → ℕ
-back (Ok length) = answer Fine length
-back (Err r) = answer (Err r) 0
+abbrev pub as_answer : Result ℕ Refusal → ℕ
+as_answer (Ok length) = answer Fine length
+as_answer (Err r) = answer (Err r) 0
 
 -- the halves of a number that a host gets back: above the refusal's number, below the bytes written, fewer than 2^32
 pub record Halves (back : ℕ) (c : Checked) (n : ℕ) : Type 0 where

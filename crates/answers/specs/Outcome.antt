@@ -12,13 +12,13 @@ pub data Outcome : Type 0 where
   gives : Bytes → Outcome
 
 -- a refusal, or the bytes where nothing is refused
-abbrev pub after : Checked → Bytes → Outcome
-after (Ok done) vs = gives vs
-after (Err r) vs = refused r
+abbrev pub outcome_of : Checked → Bytes → Outcome
+outcome_of (Ok done) vs = gives vs
+outcome_of (Err r) vs = refused r
 
 -- the first check that holds refuses; where none does, the bytes are given
 unfoldable pub unless : List Check → Bytes → Outcome
-unless ks vs = after (first ks) vs
+unless ks vs = outcome_of (first ks) vs
 
 -- a check in front of an outcome: where it holds, it refuses
 unfoldable pub behind : Check → Outcome → Outcome

@@ -3,7 +3,7 @@
 
 ghost use Rattle.std.specs.Prelude.{◌≡◌};
 ghost use Rattle.sets.specs.Sets.{IsSet};
-ghost use Rattle.answers.specs.Answers.{number, back};
+ghost use Rattle.answers.specs.Answers.{number, as_answer};
 ghost use Rattle.answers.specs.Conditions.{tables_other, blocks_other, keys_other, message_out, limit_out};
 
 use sets::Set;
@@ -57,7 +57,7 @@ impl From<Refusal> for u64 {
 
 // What a host gets back of a call: the number of a refusal above 32 zero bits, or how many bytes were written.
 pub fn answer(outcome: Result<u32, Refusal>) -> u64
-    ensures { result ≡ back outcome }
+    ensures { result ≡ as_answer outcome }
 {
     match outcome {
         Ok(length) => u64::from(length),

@@ -4,7 +4,7 @@
 ghost use Rattle.std.specs.Prelude.{◌≡◌, ◌∷◌, ◌*◌, ◌≤◌, ◌<◌, length, take};
 ghost use Rattle.slices.specs.Slices.{Bytes};
 ghost use Rattle.sets.specs.Sets.{IsSet};
-ghost use Rattle.answers.specs.Answers.{back};
+ghost use Rattle.answers.specs.Answers.{as_answer};
 ghost use Rattle.shake.specs.Sponge.{started, absorbed, Taking};
 ghost use Rattle.hashing.specs.Hashing.{h};
 ghost use Rattle.challenge.specs.Pairs.{pair};
@@ -80,7 +80,7 @@ pub fn fill(p: Set, first: [u8; 64], limit: u64, out: &mut [u8]) -> Result<(), R
 
 // The challenge call. Refusal 8 keeps the output, so the values go into an array first.
 pub fn challenge(set: u64, input: &[u8], limit: u64, output: &mut [u8]) -> Result<u32, Refusal>
-    ensures { ChallengePromise set input.now limit output.old (back result) output.new }
+    ensures { ChallengePromise set input.now limit output.old (as_answer result) output.new }
 {
     let p = Set::numbered(set).ok_or(Refusal::NoSet)?;
     if answers::limit_out(limit) {

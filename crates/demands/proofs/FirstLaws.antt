@@ -11,7 +11,7 @@ use Rattle.std.proofs.Common.{Ok, Err}
 use Rattle.slices.specs.Slices.{Bytes}
 use Rattle.answers.specs.declared.Refusal.{Refusal}
 use Rattle.answers.specs.Answers.{Checked, number, code, fine, Check, when, first, Halves}
-use Rattle.answers.specs.Outcome.{Outcome, refused, gives, after, unless, refusal_of, written_by}
+use Rattle.answers.specs.Outcome.{Outcome, refused, gives, outcome_of, unless, refusal_of, written_by}
 use Rattle.answers.proofs.ConditionsLaws.{neither}
 use Rattle.shape.proofs.ReadingLaws.{no}
 
@@ -50,7 +50,7 @@ not_raised n (k ∷ ks) e =
     let two = neither (cond (eqb (number k.gives) (suc n)) k.holds false) (raised (suc n) ks) e in
     raised_one k.holds k.gives (first ks) (suc n) two.0 (not_raised n ks two.1)
 
-after_refusal : (c : Checked) (vs : Bytes) → refusal_of (after c vs) ≡ c
+after_refusal : (c : Checked) (vs : Bytes) → refusal_of (outcome_of c vs) ≡ c
 after_refusal (Ok done) vs = refl
 after_refusal (Err r) vs = refl
 

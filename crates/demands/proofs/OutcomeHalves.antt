@@ -11,7 +11,7 @@ use Rattle.sets.specs.declared.Set.{Set}
 use Rattle.sets.specs.Sets.{IsSet, numbered}
 use Rattle.sets.proofs.Each.{known_set}
 use Rattle.answers.specs.Answers.{Checked, Fine, Check, first}
-use Rattle.answers.specs.Outcome.{Outcome, refused, gives, after, unless, behind, with_set, answer_of, written_by, Promise}
+use Rattle.answers.specs.Outcome.{Outcome, refused, gives, outcome_of, unless, behind, with_set, answer_of, written_by, Promise}
 use Rattle.answers.proofs.AnswersLaws.{halves_of}
 use Rattle.demands.specs.Halves.{HalvesOf}
 
@@ -25,7 +25,7 @@ unfolding answer_of
 outcome_halves (refused r) before back after k l = rw k.answered (halves_of (Err r) 0 l)
 outcome_halves (gives vs) before back after k l = rw k.answered (halves_of Fine (length vs) l)
 
-after-small : (c : Checked) (vs : Bytes) → (c ≡ Fine → length vs < 2 ^ 32) → Small (after c vs)
+after-small : (c : Checked) (vs : Bytes) → (c ≡ Fine → length vs < 2 ^ 32) → Small (outcome_of c vs)
 after-small (Ok done) vs h = h refl
 after-small (Err r) vs h = omega arith
 

@@ -15,7 +15,7 @@ use Rattle.sets.specs.Lengths.{longest, unpacked_length}
 use Rattle.answers.specs.declared.Refusal.{Refusal}
 use Rattle.answers.specs.declared.Refusal.TheVariants.{Room}
 use Rattle.answers.specs.Answers.{Checked, Fine, Check, when, first, answer}
-use Rattle.answers.specs.Outcome.{Outcome, refused, gives, after, unless, behind, with_set, answer_of, left_by, Promise}
+use Rattle.answers.specs.Outcome.{Outcome, refused, gives, outcome_of, unless, behind, with_set, answer_of, left_by, Promise}
 use Rattle.answers.proofs.AnswersLaws.{number-least}
 use Rattle.answers.proofs.OutcomeLaws.{set_known, unless-given, behind_passes}
 use Rattle.shape.specs.Form.{form, signature}
@@ -38,7 +38,7 @@ module _ (o : Outcome) (vs before : Bytes) (n : ℕ) (after : Bytes) (g : o ≡ 
   unfolding over
   gave_bytes = let (a, b) = promise_gave in rw b (take_at vs (drop (length vs) before) n (sym a))
 
-after_alone : (c : Checked) (vs : Bytes) (n : ℕ) → n ≡ answer_of (after c vs) → n < 2 ^ 32 → c ≡ Fine
+after_alone : (c : Checked) (vs : Bytes) (n : ℕ) → n ≡ answer_of (outcome_of c vs) → n < 2 ^ 32 → c ≡ Fine
 unfolding answer_of
 after_alone (Ok done) vs n a l = refl
 after_alone (Err r) vs n a l = absurd (omega (arith, number-least r))

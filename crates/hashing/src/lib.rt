@@ -4,7 +4,7 @@
 ghost use Rattle.std.specs.Prelude.{◌≡◌, [], ◌∷◌, ◌++◌, ◌<◌, length};
 ghost use Rattle.sets.specs.Sets.{IsSet};
 ghost use Rattle.sets.specs.Lengths.{seeds_length};
-ghost use Rattle.answers.specs.Answers.{first, back};
+ghost use Rattle.answers.specs.Answers.{first, as_answer};
 ghost use Rattle.shake.specs.Sponge.{started, absorbed, Taking};
 ghost use Rattle.hashing.specs.Hashing.{h, kdf, derived_seeds, tape_input, tape, commitment};
 ghost use Rattle.hashing.specs.HashCall.{HashPromise};
@@ -111,7 +111,7 @@ fn derive(p: Set, secret: &[u8], message: &[u8], public: &[u8], output: &mut [u8
 
 // The hashing call.
 pub fn hash(set: u64, input: &[u8], output: &mut [u8]) -> Result<u32, Refusal>
-    ensures { HashPromise set input.now output.old (back result) output.new }
+    ensures { HashPromise set input.now output.old (as_answer result) output.new }
 {
     let p = Set::numbered(set).ok_or(Refusal::NoSet)?;
     let n = output.len();
@@ -153,7 +153,7 @@ pub fn seeds(
     message: &[u8],
     output: &mut [u8],
 ) -> Result<u32, Refusal>
-    ensures { SeedsPromise set secret.now public.now message.now output.old (back result) output.new }
+    ensures { SeedsPromise set secret.now public.now message.now output.old (as_answer result) output.new }
 {
     let p = Set::numbered(set).ok_or(Refusal::NoSet)?;
     check_seeds(p, secret.len(), public.len(), message.len(), output.len())?;

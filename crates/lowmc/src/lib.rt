@@ -9,7 +9,7 @@ ghost use Rattle.bits.specs.Words.{word_bits, block_bits, Holds};
 ghost use Rattle.bits.specs.Inner.{low_bits};
 ghost use Rattle.lowmc.specs.Vectors.{at};
 ghost use Rattle.sets.specs.Sets.{IsSet};
-ghost use Rattle.answers.specs.Answers.{first, back};
+ghost use Rattle.answers.specs.Answers.{first, as_answer};
 ghost use Rattle.sets.specs.Lengths.{w};
 ghost use Rattle.circuit.specs.Matrices.{row_parity, product};
 ghost use Rattle.circuit.specs.Lowmc.{sboxes};
@@ -279,7 +279,7 @@ pub fn encrypt_call(
     block: &[u8],
     output: &mut [u8],
 ) -> Result<u32, Refusal>
-    ensures { EncryptPromise set keys.now layers.now constants.now secret.now block.now output.old (back result) output.new }
+    ensures { EncryptPromise set keys.now layers.now constants.now secret.now block.now output.old (as_answer result) output.new }
 {
     let p = Set::numbered(set).ok_or(Refusal::NoSet)?;
     let n = p.width();
@@ -303,7 +303,7 @@ pub fn encrypt_call(
     Ok(n as u32)
 }
 
-// The call that forms a public key.
+// The call that forms a public key. It is apart from the one above: its outcome is another, and so are its length and its promise.
 pub fn public_key_call(
     set: u64,
     keys: &[u8],
@@ -313,7 +313,7 @@ pub fn public_key_call(
     block: &[u8],
     output: &mut [u8],
 ) -> Result<u32, Refusal>
-    ensures { PublicKeyPromise set keys.now layers.now constants.now secret.now block.now output.old (back result) output.new }
+    ensures { PublicKeyPromise set keys.now layers.now constants.now secret.now block.now output.old (as_answer result) output.new }
 {
     let p = Set::numbered(set).ok_or(Refusal::NoSet)?;
     let n = p.public_length();

@@ -10,7 +10,7 @@ use Rattle.shape.specs.Form.{form, Shown, shown_in}
 use Rattle.parts.specs.declared.Parts.{Parts}
 use Rattle.parts.specs.declared.Cursor.{Cursor}
 use Rattle.parts.specs.declared.Here.{Here}
-use Rattle.parts.specs.declared.Shown.{Shown as Lent}
+use Rattle.parts.specs.declared.Shown.{Shown as Slices}
 
 -- the parts of a round of value e that starts at a place; where e is 0, the share's place is the end
 abbrev pub parts_at : Set → (e at : ℕ) → Parts
@@ -63,5 +63,5 @@ showing commitment transcript seed1 seed2 share =
     }
 
 -- what parts that are lent show
-abbrev pub shown_by : Lent → Shown
+abbrev pub shown_by : Slices → Shown
 shown_by x = showing x.commitment.now x.transcript.now x.seed1.now x.seed2.now x.share.now

@@ -239,7 +239,8 @@ pub fn put_header(p: Set, values: &[u8], output: &mut [u8])
     }
 }
 
-// Four slices one after the other, from a place of an output on.
+// Four slices one after the other, from a place of an output on. By names: a proof has no array of references whose length is a
+// parameter.
 fn put_four(a: &[u8], b: &[u8], c: &[u8], d: &[u8], output: &mut [u8], at: usize)
     requires { at + length a.now + length b.now + length c.now + length d.now ≤ length output.old }
     ensures { output.new ≡ put output.old at (a.now ++ (b.now ++ (c.now ++ d.now))) }

@@ -119,10 +119,6 @@ module _ {p : Set} (h : IsSet p) (o c : ℕ → Party → Bytes) (r₀ : Bytes) 
   unfolding Held
   held_none = rows_none p.t (3 * w p) (3 * p.digest) _ _ r₀
 
-  pub held_length : (t : ℕ) (r : Bytes) → Held p t o c r₀ r → length r ≡ length r₀
-  unfolding Held
-  held_length t r g = g.size
-
   pub held_more : (t : ℕ) (r : Bytes) → t < p.t → room_length p ≤ length r₀ → length (three (o t)) ≡ 3 * w p → length (three (c t)) ≡ 3 * p.digest
       → Held p t o c r₀ r → Held p (t + 1) o c r₀ (with_round p t (three (o t)) (three (c t)) r)
   unfolding Held

@@ -47,6 +47,7 @@ pub fn party_tape(p: Set, seed: &[u8], salt: &[u8], t: usize, j: usize) -> [u8; 
 }
 
 // Three slices one after the other, from a place on.
+// By names: one function over a slice of slices takes more proof than this, and each caller has to regroup what it puts.
 fn put_three(a: &[u8], b: &[u8], c: &[u8], d: &mut [u8], at: usize)
     requires { at + length a.now + length b.now + length c.now ≤ length d.old }
     ensures { d.new ≡ put d.old at (a.now ++ (b.now ++ c.now)) }

@@ -141,6 +141,7 @@ pub fn recompute(
     for i in 0..tables.set.r {
         let g = gate_row(tables.set, s[0], s[1], tape1.words[i], tape2.words[i]);
         words[i] = g;
+        // Through a name: a proof does not follow an array that a call's answer is assigned to.
         let next = advance_shares(tables, i, shares, into, s, [g, given.words[i]]);
         s = next;
     }
@@ -315,7 +316,7 @@ pub fn write_rows(p: Set, t: Strip, s: &mut [u8])
     t.write(3 * p.s, p.r, s);
 }
 
-// The verifier's recomputation from the bytes of two tapes and of a transcript.
+// The verifier's recomputation from the bytes of two tapes and of a transcript; the one above has their rows.
 pub fn recompute_tapes(
     tables: &Tables,
     e: usize,

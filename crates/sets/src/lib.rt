@@ -91,28 +91,28 @@ impl Set {
         requires { IsSet self }
         ensures { result ≡ w self }
     {
-        (self.n + 7) / 8
+        self.n.div_ceil(8)
     }
 
     pub fn seed_width(self) -> usize
         requires { IsSet self }
         ensures { result ≡ seed_width self }
     {
-        (self.seed + 7) / 8
+        self.seed.div_ceil(8)
     }
 
     pub fn transcript(self) -> usize
         requires { IsSet self }
         ensures { result ≡ transcript_length self }
     {
-        (3 * self.s * self.r + 7) / 8
+        (3 * self.s * self.r).div_ceil(8)
     }
 
     pub fn header(self) -> usize
         requires { IsSet self }
         ensures { result ≡ header_length self }
     {
-        (2 * self.t + 7) / 8
+        (2 * self.t).div_ceil(8)
     }
 
     pub fn keys_length(self) -> usize

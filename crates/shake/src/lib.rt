@@ -6,7 +6,8 @@ mod state;
 ghost use Rattle.std.specs.Prelude.{◌≡◌, [], ◌∷◌, ◌/◌, ◌%◌, ◌<◌, length};
 ghost use Rattle.shake.specs.Sponge.{started, absorbed, padded, ready, given, squeezed, Rate, Taking, Giving};
 
-// The state, the place in its block, and the length of a block in bytes.
+// The state, the place in its block, and the length of a block in bytes. One struct for a sponge that takes in and for one that gives,
+// with methods that hand back the next, as 01 names the form; contracts tell the two apart.
 #[derive(Clone, Copy)]
 pub struct Sponge {
     lanes: [u64; 25],

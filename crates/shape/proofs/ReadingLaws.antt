@@ -13,7 +13,7 @@ use Rattle.sets.specs.Lengths.{salt_length, header_length, unpacked_length}
 use Rattle.answers.specs.declared.Refusal.{Refusal}
 use Rattle.answers.specs.declared.Refusal.TheVariants.{Length, Header, Padding}
 use Rattle.answers.specs.Answers.{Checked, Fine, Check, when, first}
-use Rattle.answers.specs.Outcome.{Outcome, refused, gives, after, unless}
+use Rattle.answers.specs.Outcome.{Outcome, refused, gives, outcome_of, unless}
 use Rattle.answers.proofs.OutcomeLaws.{unless-given}
 use Rattle.shape.specs.Fields.{all, zero_padded, clean, clean_slots}
 use Rattle.shape.specs.Header.{values, is_value}
@@ -38,7 +38,7 @@ gives_same e = cc
 never : {A : Type 0} {r : Refusal} {b : Bytes} → refused r ≡ gives b → A
 never e = let z : ◌≡◌ {A = ℕ} 0 1 = cc in absurd (omega arith)
 
-given_after : (c : Checked) (vs us : Bytes) → after c vs ≡ gives us → (c ≡ Fine) × (vs ≡ us)
+given_after : (c : Checked) (vs us : Bytes) → outcome_of c vs ≡ gives us → (c ≡ Fine) × (vs ≡ us)
 given_after (Ok done) vs us e = (refl, gives_same e)
 given_after (Err r) vs us e = never e
 

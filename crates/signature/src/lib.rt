@@ -5,7 +5,7 @@ ghost use Rattle.std.specs.Prelude.{◌≡◌, ◌+◌, ◌≤◌, length, drop}
 ghost use Rattle.slices.specs.Slices.{part, put, over};
 ghost use Rattle.sets.specs.Sets.{IsSet};
 ghost use Rattle.sets.specs.Lengths.{salt_length, header_length, round_most, longest, unpacked_length};
-ghost use Rattle.answers.specs.Answers.{Fine, first, back};
+ghost use Rattle.answers.specs.Answers.{Fine, first, as_answer};
 ghost use Rattle.answers.specs.Outcome.{Promise};
 ghost use Rattle.shape.specs.Fields.{sizes, unpack, pack, all, is_zero, clean_slots};
 ghost use Rattle.shape.specs.Header.{values};
@@ -162,7 +162,7 @@ pub fn pack(p: Set, x: &[u8], output: &mut [u8]) -> usize
 // Reading for a set that is known.
 fn read_into(p: Set, s: &[u8], output: &mut [u8]) -> Result<u32, Refusal>
     requires { IsSet p }
-    ensures { Promise (read_into p s.now (length output.old)) output.old (back result) output.new }
+    ensures { Promise (read_into p s.now (length output.old)) output.old (as_answer result) output.new }
 {
     let n = p.unpacked_length();
     if output.len() < n {
@@ -176,7 +176,7 @@ fn read_into(p: Set, s: &[u8], output: &mut [u8]) -> Result<u32, Refusal>
 // Writing for a set that is known.
 fn write_into(p: Set, x: &[u8], output: &mut [u8]) -> Result<u32, Refusal>
     requires { IsSet p }
-    ensures { Promise (write_into p x.now (length output.old)) output.old (back result) output.new }
+    ensures { Promise (write_into p x.now (length output.old)) output.old (as_answer result) output.new }
 {
     if output.len() < p.longest() {
         return Err(Refusal::Room);
@@ -187,7 +187,7 @@ fn write_into(p: Set, x: &[u8], output: &mut [u8]) -> Result<u32, Refusal>
 
 // A signature into its unpacked form: what the exported call does.
 pub fn read(set: u64, s: &[u8], output: &mut [u8]) -> Result<u32, Refusal>
-    ensures { ReadPromise set s.now output.old (back result) output.new }
+    ensures { ReadPromise set s.now output.old (as_answer result) output.new }
 {
     let p = Set::numbered(set).ok_or(Refusal::NoSet)?;
     read_into(p, s, output)
@@ -195,7 +195,7 @@ pub fn read(set: u64, s: &[u8], output: &mut [u8]) -> Result<u32, Refusal>
 
 // An unpacked form into its signature: what the exported call does.
 pub fn write(set: u64, x: &[u8], output: &mut [u8]) -> Result<u32, Refusal>
-    ensures { WritePromise set x.now output.old (back result) output.new }
+    ensures { WritePromise set x.now output.old (as_answer result) output.new }
 {
     let p = Set::numbered(set).ok_or(Refusal::NoSet)?;
     write_into(p, x, output)

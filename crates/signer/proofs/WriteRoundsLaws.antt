@@ -1,16 +1,16 @@
 -- Laws of the signature that the signer writes: header and salt, then round by round, up to the whole.
 use mathlib.Core.Path.{◌≡◌, sym, ap, ◌∙◌}
 use mathlib.Core.List.{◌++◌, append_assoc}
-use Prim.Native.Nat.{ℕ, ◌+◌, ◌-◌, ◌*◌, ◌≤◌, ◌<◌}
+use Prim.Native.Nat.{ℕ, ◌+◌, ◌*◌, ◌≤◌, ◌<◌}
 use native.Mathlib.Omega.{arith}
 use native.Mathlib.Numerals.{add-one}
-use lib.ListN.{length, take, drop, get_or, length-append, length-replicate}
+use lib.ListN.{length, get_or, length-append, length-replicate}
 use Rattle.slices.specs.Slices.{Bytes, put, over, joined}
 use Rattle.slices.proofs.SliceLaws.{over-put, put-none, length-put}
 use Rattle.bits.proofs.BytesLaws.{length-bytes_of}
 use Rattle.sets.specs.declared.Set.{Set}
 use Rattle.sets.specs.Sets.{IsSet}
-use Rattle.sets.specs.Lengths.{w, seed_width, salt_length, header_length, seeds_length, longest}
+use Rattle.sets.specs.Lengths.{w, salt_length, header_length, seeds_length, longest}
 use Rattle.circuit.specs.Lowmc.{Cipher}
 use Rattle.circuit.specs.Round.{Party, party0, party1, party2, next}
 use Rattle.lowmc.specs.Lent.{cipher_of}
@@ -28,17 +28,16 @@ use Rattle.shape.proofs.ShownLaws.{length-round_of, signature_of_parts, start_of
 use Rattle.views.specs.Parties.{party_of}
 use Rattle.views.specs.Signed.{seed_at, salt_at, shares, transcripts, commitments, shown_share, shown}
 use Rattle.signer.specs.Sign.{shown_at, signature_for}
-use Rattle.signer.proofs.SeedLaws.{length_seed, length_salt, salt_part}
+use Rattle.signer.proofs.SeedLaws.{length_seed, length_salt}
 
 -- ---- header and salt
 
--- the salt is put behind the header, where x is the code's width of a seed and n its length of a header
-pub front_put : (p : Set) (seeds es out : Bytes) (x n : ℕ) → length seeds ≡ seeds_length p → header_length p + salt_length ≤ length out → x ≡ seed_width p
-    → n ≡ header_length p → {out1 out2 : Bytes} → out1 ≡ over (header_of p es) out
-    → out2 ≡ put out1 n (take (length seeds - 3 * p.t * x) (drop (3 * p.t * x) seeds)) → out2 ≡ over (header_of p es ++ salt_at p seeds) out
-front_put p seeds es out x n h f e en {out1} {out2} a b =
+-- the salt is put behind the header, where n is the code's length of a header and s the salt
+pub front_put : (p : Set) (seeds es out s : Bytes) (n : ℕ) → length seeds ≡ seeds_length p → header_length p + salt_length ≤ length out → s ≡ salt_at p seeds
+    → n ≡ header_length p → {out1 out2 : Bytes} → out1 ≡ over (header_of p es) out → out2 ≡ put out1 n s → out2 ≡ over (header_of p es ++ salt_at p seeds) out
+front_put p seeds es out s n h f e en {out1} {out2} a b =
     let l : n ≡ length (header_of p es) = en ∙ sym (length_header p es) in
-    b ∙ ((λ i. put (a i) (l i) (salt_part p seeds x e i))
+    b ∙ ((λ i. put (a i) (l i) (e i))
     ∙ over-put (header_of p es) (salt_at p seeds) out (omega (arith, length_header p es, length_salt p seeds h)))
 
 -- ---- what is shown has its lengths

@@ -14,8 +14,8 @@ use Rattle.signer.specs.Sign.{Given, shown_at}
 
 module _ (s : Signing) (t : ℕ) where
   -- the tapes of round t
-  abbrev pub tapes_of : Party → Bytes
-  tapes_of = tapes s.tables.set (cipher s.tables) (salt_at s.tables.set s.seeds.now) t (seed_at s.tables.set s.seeds.now t)
+  abbrev pub round_tapes : Party → Bytes
+  round_tapes = tapes s.tables.set (cipher s.tables) (salt_at s.tables.set s.seeds.now) t (seed_at s.tables.set s.seeds.now t)
 
   -- its output shares and commitments
   abbrev pub outputs_of : Party → Bytes
@@ -30,7 +30,7 @@ module _ (s : Signing) (t : ℕ) where
 
   -- round t was played
   abbrev pub PlayedIn : Played → Type 0
-  PlayedIn x = PlayedAs (cipher s.tables) s.secret.now tapes_of (plaintext s.tables.set s.public.now) x
+  PlayedIn x = PlayedAs (cipher s.tables) s.secret.now round_tapes (plaintext s.tables.set s.public.now) x
 
 -- what a host handed in
 abbrev pub handed_in : ℕ → Signing → (message : Bytes) → (limit : ℕ) → (room output : Bytes) → Given

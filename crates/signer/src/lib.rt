@@ -8,7 +8,7 @@ ghost use Rattle.bits.specs.Words.{block_bits};
 ghost use Rattle.bits.specs.Rows.{Rows, flat, Rowed};
 ghost use Rattle.sets.specs.Sets.{IsSet, numbered};
 ghost use Rattle.sets.specs.Lengths.{w, transcript_length, public_length, room_length, longest};
-ghost use Rattle.answers.specs.Answers.{first, back};
+ghost use Rattle.answers.specs.Answers.{first, as_answer};
 ghost use Rattle.circuit.specs.Round.{Party, party2};
 ghost use Rattle.lowmc.specs.Cipher.{cipher};
 ghost use Rattle.lowmc.specs.Encrypted.{plaintext};
@@ -148,11 +148,10 @@ fn challenged(
 {
     let p = signing.tables.set;
     let n = p.room_length();
-    let from = 3 * p.t * p.seed_width();
     room::challenge(
         p,
         &room[..n],
-        &signing.seeds[from..],
+        signing.salt(),
         signing.public,
         message,
         limit,
@@ -170,7 +169,7 @@ fn sign_ready(
 ) -> Result<u32, Refusal>
     requires { (room_length signing.now.tables.set ≤ length room.old) × (longest signing.now.tables.set ≤ length output.old) }
     ensures { (set : ℕ)
-        → Finished signing.now.tables.set (handed_in set signing.now message.now limit room.old output.old) (back result) room.new output.new }
+        → Finished signing.now.tables.set (handed_in set signing.now message.now limit room.old output.old) (as_answer result) room.new output.new }
 {
     let t = signing.tables.set.t;
     let needed = signing.tables.set.room_length();
@@ -210,7 +209,7 @@ pub fn sign(
           room = room.old;
           output = output.old;
         })
-        (back result) room.new output.new }
+        (as_answer result) room.new output.new }
 {
     let p = Set::numbered(set).ok_or(Refusal::NoSet)?;
     check_lengths(

@@ -24,7 +24,7 @@ pub struct Signing<'a> {
 impl Signing<'_> {
     ghost use Rattle.std.specs.Prelude.{◌≡◌, ◌++◌, ◌+◌, ◌≤◌, ◌<◌, length, take};
     ghost use Rattle.slices.specs.Slices.{put, over, equal};
-    ghost use Rattle.sets.specs.Lengths.{w, transcript_length, salt_length, header_length, room_length, longest};
+    ghost use Rattle.sets.specs.Lengths.{w, seed_width, transcript_length, salt_length, header_length, room_length, longest};
     ghost use Rattle.circuit.specs.Round.{Party, next, by_party};
     ghost use Rattle.circuit.specs.Tapes.{party_number, tape_length};
     ghost use Rattle.lowmc.specs.Cipher.{cipher};
@@ -40,7 +40,7 @@ impl Signing<'_> {
     ghost use Rattle.room.specs.Room.{commitments_at, with_round};
     ghost use Rattle.signer.specs.Played.{PlayedAs};
     ghost use Rattle.signer.specs.Sign.{signature_for};
-    ghost use Rattle.signer.specs.Making.{tapes_of, outputs_of, commitments_of, shown_of, PlayedIn};
+    ghost use Rattle.signer.specs.Making.{round_tapes, outputs_of, commitments_of, shown_of, PlayedIn};
 
     // Whether the last state of the encryption is the ciphertext of the public key. Every byte is looked at.
     pub fn paired(&self) -> bool
@@ -56,17 +56,33 @@ impl Signing<'_> {
         slices::equal(&c[..w], &self.public[..w])
     }
 
+    // The seed of party j in round t.
+    fn seed(&self, t: usize, j: usize) -> &[u8]
+        requires { (t < self.now.tables.set.t) × (j < 3) }
+        ensures named { (k : Party) → j ≡ party_number k → result.now ≡ seed_at self.now.tables.set self.now.seeds.now t k }
+        ensures wide { length result.now ≡ seed_width self.now.tables.set }
+    {
+        let w = self.tables.set.seed_width();
+        let at = (3 * t + j) * w;
+        let end = at + w;
+        &self.seeds[at..end]
+    }
+
+    // The salt, which stands behind the seeds.
+    pub fn salt(&self) -> &[u8]
+        ensures { result.now ≡ salt_at self.now.tables.set self.now.seeds.now }
+    {
+        let p = self.tables.set;
+        let at = 3 * p.t * p.seed_width();
+        &self.seeds[at..]
+    }
+
     // The tape of party j in round t from the lent seeds, at the start of an array.
     fn seeded_tape(&self, t: usize, j: usize) -> [u8; 175]
         requires { (t < self.now.tables.set.t) × (j < 3) }
-        ensures { (k : Party) → j ≡ party_number k → take (tape_length (cipher self.now.tables) k) result ≡ tapes_of self.now t k }
+        ensures { (k : Party) → j ≡ party_number k → take (tape_length (cipher self.now.tables) k) result ≡ round_tapes self.now t k }
     {
-        let p = self.tables.set;
-        let w = p.seed_width();
-        let at = (3 * t + j) * w;
-        let end = at + w;
-        let salt = 3 * p.t * w;
-        room::party_tape(p, &self.seeds[at..end], &self.seeds[salt..], t, j)
+        room::party_tape(self.tables.set, self.seed(t, j), self.salt(), t, j)
     }
 
     // A round over its three tapes. Never in the frame of the caller, who hashes: so hashing and the simulation do not use the stack
@@ -104,13 +120,9 @@ impl Signing<'_> {
         requires { (t < self.now.tables.set.t) × (j < 3) × PlayedIn self.now t x.now }
         ensures { (k : Party) → j ≡ party_number k → take self.now.tables.set.digest result ≡ commitments_of self.now t k }
     {
-        let p = self.tables.set;
-        let s = p.seed_width();
-        let at = (3 * t + j) * s;
-        let end = at + s;
         commit_party(
-            p,
-            &self.seeds[at..end],
+            self.tables.set,
+            self.seed(t, j),
             x.inputs[j],
             x.said[j],
             x.outputs[j],
@@ -175,17 +187,15 @@ impl Signing<'_> {
             (take (w self.now.tables.set) share)))) }
     {
         let p = self.tables.set;
-        let s = p.seed_width();
-        let a = (3 * t + e as usize) * s;
-        let b = (3 * t + (e as usize + 1) % 3) * s;
+        let j = usize::from(e);
         let d = p.digest;
         let m = p.transcript();
         let w = p.width();
         let shown = Shown {
             commitment: &commitment[..d],
             transcript: &said[..m],
-            seed1: &self.seeds[a..a + s],
-            seed2: &self.seeds[b..b + s],
+            seed1: self.seed(t, j),
+            seed2: self.seed(t, (j + 1) % 3),
             share: &share[..w],
         };
         parts::put_round(p, e, shown, output, at)
@@ -198,7 +208,7 @@ impl Signing<'_> {
         ensures { (result ≡ at + sizes (round_fields self.now.tables.set e))
             × (output.new ≡ put output.old at (round_of self.now.tables.set e (shown_of self.now t e))) }
     {
-        let j = e as usize;
+        let j = usize::from(e);
         let k = (j + 1) % 3;
         let commitment = self.commitment_of(t, (j + 2) % 3, x);
         let share = shown_share(self.tables.set, e, x.inputs);
@@ -222,9 +232,8 @@ impl Signing<'_> {
         ensures { output.new ≡ over (header_of self.now.tables.set values.now ++ salt_at self.now.tables.set self.now.seeds.now) output.old }
     {
         let p = self.tables.set;
-        let from = 3 * p.t * p.seed_width();
         parts::put_header(p, values, output);
-        slices::place(&self.seeds[from..], output, p.header());
+        slices::place(self.salt(), output, p.header());
     }
 
     // The second pass: the signature for the challenge values at the start of the output, and its length.

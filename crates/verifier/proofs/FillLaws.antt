@@ -1,5 +1,5 @@
 -- Laws of the rounds that a signature shows: their parts in place, and what is recomputed from them as the definitions have it.
-use mathlib.Core.Path.{◌≡◌, refl, sym, ap, ap₂, ◌∙◌, subst}
+use mathlib.Core.Path.{◌≡◌, refl, sym, ap, ◌∙◌, subst}
 use mathlib.Core.Bool.{Bool, true, false}
 use Prim.Native.Nat.{ℕ, ◌+◌, ◌-◌, ◌*◌, ◌≤◌, ◌<◌}
 use native.Mathlib.Omega.{arith}
@@ -136,29 +136,27 @@ module _ {p : Set} (i : IsSet p) (C : Cipher) (public s : Bytes) (t : ℕ) (l : 
   opened_first : party_of r.value ≡ party_of (get_or (values_in p (form p s)) t 0)
   opened_first = ap party_of (g.value ∙ ap (λ (vs : Bytes). get_or vs t 0) (sym (values_of_form p s (sound p s c).exact)))
 
-  -- the salt, by the code's places
-  salt_as : (from end : ℕ) → from ≡ header_length p → end ≡ from + salt_length → part s from (end - from) ≡ salt_in p (form p s)
-  salt_as from end e f =
-      let n : end - from ≡ salt_length = omega arith in
-      ap₂ (λ (a k : ℕ). part s a k) e n ∙ sym (salt_in_place p s (sound p s c).exact)
+  -- the salt in its place
+  module _ {salt : Bytes} (e : salt ≡ part s (header_length p) salt_length) where
+    salt_as : salt ≡ salt_in p (form p s)
+    salt_as = e ∙ sym (salt_in_place p s (sound p s c).exact)
 
-  module _ (from end : ℕ) (e : from ≡ header_length p) (f : end ≡ from + salt_length) where
-    pub outputs_as : recomputed_outputs p C (part s from (end - from)) t (party_of r.value) in_place (plaintext p public) (ciphertext p public)
+    pub outputs_as : recomputed_outputs p C salt t (party_of r.value) in_place (plaintext p public) (ciphertext p public)
         ≡ opened_outputs p C public (form p s) t
     outputs_as =
-        alike (λ (j : Party) (u : Shown). recomputed_outputs p C (part s from (end - from)) t j u (plaintext p public) (ciphertext p public))
-        (no_share p C (part s from (end - from)) t (plaintext p public) (ciphertext p public)) r.value _ _ _ _ _ (shown_in p (form p s) t)
+        alike (λ (j : Party) (u : Shown). recomputed_outputs p C salt t j u (plaintext p public) (ciphertext p public))
+        (no_share p C salt t (plaintext p public) (ciphertext p public)) r.value _ _ _ _ _ (shown_in p (form p s) t)
         g.commitment g.transcript g.seed1 g.seed2 g.share
-        ∙ λ k. recomputed_outputs p C (salt_as from end e f k) t (opened_first k) (shown_in p (form p s) t) (plaintext p public) (ciphertext p public)
+        ∙ λ k. recomputed_outputs p C (salt_as k) t (opened_first k) (shown_in p (form p s) t) (plaintext p public) (ciphertext p public)
 
     pub commitments-as :
-        recomputed_commitments p C (part s from (end - from)) t (party_of r.value) in_place (plaintext p public) (ciphertext p public)
+        recomputed_commitments p C salt t (party_of r.value) in_place (plaintext p public) (ciphertext p public)
         ≡ opened_commitments p C public (form p s) t
     commitments-as =
-        alike (λ (j : Party) (u : Shown). recomputed_commitments p C (part s from (end - from)) t j u (plaintext p public) (ciphertext p public))
-        (no_share_committed p C (part s from (end - from)) t (plaintext p public) (ciphertext p public)) r.value _ _ _ _ _ (shown_in p (form p s) t)
+        alike (λ (j : Party) (u : Shown). recomputed_commitments p C salt t j u (plaintext p public) (ciphertext p public))
+        (no_share_committed p C salt t (plaintext p public) (ciphertext p public)) r.value _ _ _ _ _ (shown_in p (form p s) t)
         g.commitment g.transcript g.seed1 g.seed2 g.share
-        ∙ λ k. recomputed_commitments p C (salt_as from end e f k) t (opened_first k) (shown_in p (form p s) t) (plaintext p public) (ciphertext p public)
+        ∙ λ k. recomputed_commitments p C (salt_as k) t (opened_first k) (shown_in p (form p s) t) (plaintext p public) (ciphertext p public)
 
   -- the lengths of what goes into the room
   pub outputs-long : length (three (opened_outputs p C public (form p s) t)) ≡ 3 * width C.n

@@ -1,8 +1,7 @@
 -- Laws of the verdict: too few values, another challenge, or valid.
-use mathlib.Core.Path.{◌≡◌, sym, ap, ap₂, ◌∙◌}
+use mathlib.Core.Path.{◌≡◌, sym, ap, ◌∙◌}
 use mathlib.Core.Bool.{true, false}
-use Prim.Native.Nat.{ℕ, ◌+◌, ◌-◌}
-use native.Mathlib.Omega.{arith}
+use Prim.Native.Nat.{ℕ}
 use lib.ListN.{length, take}
 use Rattle.std.proofs.Common.{Err}
 use Rattle.slices.specs.Slices.{Bytes, part, equal}
@@ -39,12 +38,10 @@ module _ (p : Set) (b : Bytes) (limit : ℕ) (es : Bytes) where
 
 -- ---- the verdict on values that were filled in
 
--- the first block of the challenge, by the code's places of the salt
-pub block_as : (p : Set) (filled s public message : Bytes) (from end : ℕ) → from ≡ header_length p → end ≡ from + salt_length
-    → h p 1 (challenge_input filled (part s from (end - from)) public message) ≡ h p 1 (challenge_input filled (part s (header_length p) salt_length) public message)
-block_as p filled s public message from end e f =
-    let n : end - from ≡ salt_length = omega arith in
-    ap₂ (λ (a k : ℕ). h p 1 (challenge_input filled (part s a k) public message)) e n
+-- the first block of the challenge, by the salt that is lent
+pub block_as : (p : Set) (filled s public message : Bytes) {salt : Bytes} → salt ≡ part s (header_length p) salt_length
+    → h p 1 (challenge_input filled salt public message) ≡ h p 1 (challenge_input filled (part s (header_length p) salt_length) public message)
+block_as p filled s public message e = ap (λ (x : Bytes). h p 1 (challenge_input filled x public message)) e
 
 module _ {p : Set} {b b' : Bytes} {limit : ℕ} {before after : Bytes} {r : Checked} (es : Bytes) (q : b ≡ b') (f : Fills p b limit before r after) where
   pub verdict_short : {x : Refusal} → r ≡ Err x → Err x ≡ first (verdict_checks p b' limit es)

@@ -218,7 +218,7 @@ fn fill_round(
 {
     let p = tables.set;
     let w = p.width();
-    let x = open(tables, &public[w..], salt, t, e as usize, shown);
+    let x = open(tables, &public[w..], salt, t, usize::from(e), shown);
     put_outputs(p, t, e, x.again, &public[..w], room);
     put_commitments(p, t, e, x, shown, room);
 }

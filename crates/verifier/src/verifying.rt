@@ -37,6 +37,15 @@ impl Verifying<'_> {
     ghost use Rattle.room.specs.Room.{with_round};
     ghost use Rattle.verifier.specs.Verify.{verdict_checks, first_block};
 
+    // The salt, which stands behind the header.
+    fn salt(&self) -> &[u8]
+        ensures { result.now ≡ part self.now.signature.now (header_length self.now.tables.set) salt_length }
+    {
+        let from = self.tables.set.header();
+        let end = from + Set::SALT;
+        &self.signature[from..end]
+    }
+
     // Round t recomputed from where its parts stand in the signature.
     fn fill_at(&self, here: Here, t: usize, room: &mut [u8])
         requires { (t < self.now.tables.set.t) × Located self.now.tables.set self.now.signature.now t here
@@ -47,8 +56,6 @@ impl Verifying<'_> {
             (three (opened_commitments self.now.tables.set (cipher self.now.tables) self.now.public.now (form self.now.tables.set self.now.signature.now) t))
             room.old }
     {
-        let from = self.tables.set.header();
-        let end = from + Set::SALT;
         let q = here.parts;
         let shown = Shown {
             commitment: &self.signature[q.commitment..q.transcript],
@@ -57,8 +64,15 @@ impl Verifying<'_> {
             seed2: &self.signature[q.seed2..q.share],
             share: &self.signature[q.share..q.next],
         };
-        let salt = &self.signature[from..end];
-        fill_round(&self.tables, self.public, salt, t, here.value, &shown, room);
+        fill_round(
+            &self.tables,
+            self.public,
+            self.salt(),
+            t,
+            here.value,
+            &shown,
+            room,
+        );
     }
 
     // All rounds recomputed: the room is filled with their output shares and commitments.
@@ -104,13 +118,11 @@ impl Verifying<'_> {
     {
         let p = self.tables.set;
         let t = p.t;
-        let from = p.header();
-        let end = from + Set::SALT;
         let mut values = [0u8; 438];
         room::challenge(
             p,
             filled,
-            &self.signature[from..end],
+            self.salt(),
             self.public,
             message,
             limit,

@@ -1,7 +1,7 @@
 -- `signer::sign` meets its contract.
 use mathlib.Core.Path.{refl, sym, ap, ◌∙◌}
 use Rattle.sets.proofs.Each.{known_set}
-use Rattle.answers.specs.Answers.{back}
+use Rattle.answers.specs.Answers.{as_answer}
 use Rattle.answers.proofs.OutcomeLaws.{handed_on, no_such_set}
 use Rattle.signer.proofs.SignLaws.{handed, fitting, no_set, stopped, unpaired, signed}
 use Rattle.signer.proofs.sign.Goals as goal
@@ -9,7 +9,7 @@ use Rattle.signer.proofs.sign.Goals as goal
 pub returns-in_err-p : goal.returns-in_err-p
 returns-in_err-p c =
     no_set _ _ (sym c.numbered.ensures ∙ c.in_err-p.ensures.ok_part)
-    (ap back (no_such_set _ c.in_err-p.ensures.ok_part c.in_err-p.ensures.value c.from_residual.ensures.1))
+    (ap as_answer (no_such_set _ c.in_err-p.ensures.ok_part c.in_err-p.ensures.value c.from_residual.ensures.1))
 
 pub check_lengths-requires : goal.check_lengths-requires
 check_lengths-requires c = known_set c.args.set _ (sym c.numbered.ensures ∙ c.in_ok-p.ensures.ok_part)
@@ -17,7 +17,7 @@ check_lengths-requires c = known_set c.args.set _ (sym c.numbered.ensures ∙ c.
 pub returns-in_err-check_lengths : goal.returns-in_err-check_lengths
 returns-in_err-check_lengths c =
     stopped _ _ (sym c.numbered.ensures ∙ c.in_ok-p.ensures.ok_part) (sym c.in_err-check_lengths.ensures)
-    (ap back (handed_on _ c.from_residual-in_err-check_lengths.ensures.1))
+    (ap as_answer (handed_on _ c.from_residual-in_err-check_lengths.ensures.1))
 
 pub invariant_of-tables : goal.invariant_of-tables
 invariant_of-tables c =

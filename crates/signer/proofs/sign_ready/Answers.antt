@@ -2,7 +2,7 @@
 use mathlib.Core.Path.{refl, ap}
 use native.Mathlib.Omega.{arith}
 use lib.ListN.{take}
-use Rattle.answers.specs.Answers.{back}
+use Rattle.answers.specs.Answers.{as_answer}
 use Rattle.answers.proofs.OutcomeLaws.{handed_on}
 use Rattle.signer.specs.Making.{handed_in}
 use Rattle.signer.proofs.WriteRoundsLaws.{signature_short}
@@ -14,7 +14,7 @@ returns-in_err-drawn c =
     let a = c.args in
     let i = a.signing.now.tables.lent.is_set in
     let g = handed_in 0 a.signing.now a.message.now a.limit a.room.now a.output.now in
-    λ set. finished_few i _ c.fill.ensures c.challenged-drawn.ensures c.in_err-drawn.was (ap back (handed_on _ c.from_residual.ensures.1))
+    λ set. finished_few i _ c.fill.ensures c.challenged-drawn.ensures c.in_err-drawn.was (ap as_answer (handed_on _ c.from_residual.ensures.1))
     (room-cleared i g c.fill.ensures _ c.room_length-needed.ensures c.clear.ensures)
 
 pub write-requires : goal.write-requires

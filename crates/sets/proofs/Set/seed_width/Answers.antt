@@ -1,14 +1,8 @@
 -- `sets::Set::seed_width` meets its contract.
-use mathlib.Core.Path.{refl}
-use Prim.Native.Nat.{◌+◌}
+use native.Mathlib.Omega.{arith}
 use Rattle.bits.specs.Bytes.{width}
-use Rattle.sets.specs.declared.Set.{Set}
-use Rattle.sets.proofs.Each.{fits_set}
 use Rattle.sets.proofs.Set.seed_width.Goals as goal
-
-pub overflow_add-result : goal.overflow_add-result
-overflow_add-result c = fits_set (λ (p : Set). p.seed + 7) tt tt tt c.requires
 
 pub returns : goal.returns
 unfolding width
-returns c = refl
+returns c = omega (arith, c.div_ceil.ensures)

@@ -8,7 +8,6 @@ use Rattle.lowmc.specs.Vectors.{at}
 use Rattle.lowmc.specs.Cipher.{cipher}
 use Rattle.lowmc.specs.Encrypted.{plaintext}
 use Rattle.views.specs.Signed.{seed_at, salt_at}
-use Rattle.signer.proofs.SeedLaws.{seed_part}
 use Rattle.signer.proofs.PlayLaws.{commitment_as}
 use Rattle.signer.proofs.signing.Signing.commitment_of.Goals as goal
 
@@ -19,5 +18,5 @@ returns c =
     let p = s.tables.set in
     λ k q.
     commitment_as p (cipher s.tables) (salt_at p s.seeds.now) a.t (seed_at p s.seeds.now a.t) s.secret.now (plaintext p s.public.now) a.x.now k c.requires.2
-    (seed_part p s.seeds.now c.seed_width-s.result c.seed_width-s.ensures a.t a.j k q)
+    (c.seed.ensures.named k q)
     (ap (λ (z : ℕ). block_bits (at a.x.now.inputs z)) q) (ap (λ (z : ℕ). get_or a.x.now.said z []) q) (ap (λ (z : ℕ). block_bits (at a.x.now.outputs z)) q) c.commit_party.ensures

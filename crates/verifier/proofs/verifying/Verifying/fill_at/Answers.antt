@@ -1,19 +1,13 @@
 -- `verifier::verifying::Verifying::fill_at` meets its contract.
-use mathlib.Core.Path.{ap₂, refl, ◌∙◌}
-use native.Mathlib.Omega.{arith}
+use mathlib.Core.Path.{ap₂, ◌∙◌}
 use Rattle.slices.specs.Slices.{Bytes}
 use Rattle.circuit.specs.Round.{Party}
 use Rattle.lowmc.specs.Cipher.{cipher}
 use Rattle.views.specs.Parties.{three}
 use Rattle.room.specs.Room.{with_round}
-use Rattle.verifier.proofs.FillLaws.{value-small, commitment-long, share-long, share-small, salt_end, outputs_as, commitments-as}
+use Rattle.verifier.proofs.FillLaws.{value-small, commitment-long, share-long, share-small, outputs_as, commitments-as}
 use borrow.Author.Rules.{rules}
 use Rattle.verifier.proofs.verifying.Verifying.fill_at.Goals as goal
-
-pub slice_bounds-salt-end : goal.slice_bounds-salt-end
-slice_bounds-salt-end c =
-    let h = c.requires in
-    omega (arith, salt_end c.args.self.now.tables.lent.is_set c.args.self.now.signature.now c.args.t h.0 c.args.self.now.reads c.args.here h.1, c.header-from.ensures)
 
 pub fill_round-requires : goal.fill_round-requires
 fill_round-requires c =
@@ -37,5 +31,5 @@ returns c =
     let C = cipher a.self.now.tables in
     c.fill_round.ensures
     ∙ ap₂ (λ (o k : Party → Bytes). with_round a.self.now.tables.set a.t (three o) (three k) a.room.now)
-    (outputs_as i C a.self.now.public.now a.self.now.signature.now a.t h.0 a.self.now.reads a.here h.1 _ _ c.header-from.ensures refl)
-    (commitments-as i C a.self.now.public.now a.self.now.signature.now a.t h.0 a.self.now.reads a.here h.1 _ _ c.header-from.ensures refl)
+    (outputs_as i C a.self.now.public.now a.self.now.signature.now a.t h.0 a.self.now.reads a.here h.1 c.salt.ensures)
+    (commitments-as i C a.self.now.public.now a.self.now.signature.now a.t h.0 a.self.now.reads a.here h.1 c.salt.ensures)

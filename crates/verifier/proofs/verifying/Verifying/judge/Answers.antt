@@ -2,21 +2,10 @@
 use mathlib.Core.Path.{refl, sym, ◌∙◌}
 use native.Mathlib.Omega.{arith}
 use Rattle.shape.specs.Header.{values}
-use Rattle.shape.proofs.ReadingLaws.{sound}
 use Rattle.room.proofs.RoomLaws.{sizes}
 use Rattle.answers.proofs.OutcomeLaws.{handed_on}
 use Rattle.verifier.proofs.VerdictLaws.{block_as, verdict_short, verdict_differs, verdict_fine, values-long}
 use Rattle.verifier.proofs.verifying.Verifying.judge.Goals as goal
-
-pub overflow_add-end : goal.overflow_add-end
-overflow_add-end c =
-    let s = c.args.self.now in
-    omega (arith, (sound s.tables.set s.signature.now s.reads).long, c.header-from.ensures)
-
-pub slice_bounds-challenge-end : goal.slice_bounds-challenge-end
-slice_bounds-challenge-end c =
-    let s = c.args.self.now in
-    omega (arith, (sound s.tables.set s.signature.now s.reads).long, c.header-from.ensures)
 
 pub challenge-requires : goal.challenge-requires
 challenge-requires c =
@@ -41,7 +30,7 @@ returns-then-agrees c =
     let a = c.args in
     let s = a.self.now in
     verdict_fine (values s.tables.set s.signature.now)
-    (block_as s.tables.set a.filled.now s.signature.now s.public.now a.message.now _ _ c.header-from.ensures refl)
+    (block_as s.tables.set a.filled.now s.signature.now s.public.now a.message.now c.salt.ensures)
     c.challenge.ensures c.in_ok-challenge.was (sym c.agrees.ensures ∙ c.if-agrees.true)
 
 pub returns-in_err-challenge : goal.returns-in_err-challenge
@@ -50,7 +39,7 @@ returns-in_err-challenge c =
     let s = a.self.now in
     handed_on _ c.from_residual.ensures.1
     ∙ verdict_short (values s.tables.set s.signature.now)
-    (block_as s.tables.set a.filled.now s.signature.now s.public.now a.message.now _ _ c.header-from.ensures refl)
+    (block_as s.tables.set a.filled.now s.signature.now s.public.now a.message.now c.salt.ensures)
     c.challenge.ensures c.in_err-challenge.was
 
 pub returns : goal.returns
@@ -58,5 +47,5 @@ returns c =
     let a = c.args in
     let s = a.self.now in
     verdict_differs (values s.tables.set s.signature.now)
-    (block_as s.tables.set a.filled.now s.signature.now s.public.now a.message.now _ _ c.header-from.ensures refl)
+    (block_as s.tables.set a.filled.now s.signature.now s.public.now a.message.now c.salt.ensures)
     c.challenge.ensures c.in_ok-challenge.was (sym c.agrees.ensures ∙ c.if-agrees.false)
