@@ -1,9 +1,9 @@
 // What a host gets back: refusals and their numbers, the answer of a call, and the conditions that several calls check.
 #![tactic(auto)]
 
-ghost use Rattle.std.specs.Prelude.{◌≡◌};
+ghost use Rattle.std.specs.Prelude.{◌≡◌, Err};
 ghost use Rattle.sets.specs.Sets.{IsSet};
-ghost use Rattle.answers.specs.Answers.{number, as_answer};
+ghost use Rattle.answers.specs.Answers.{number, answer, as_answer};
 ghost use Rattle.answers.specs.Conditions.{tables_other, blocks_other, keys_other, message_out, limit_out};
 
 use sets::Set;
@@ -55,13 +55,22 @@ impl From<Refusal> for u64 {
     }
 }
 
+impl Refusal {
+    // A refusal's number above 32 bits that hold a length.
+    pub fn answer(self, length: u32) -> u64
+        ensures { result ≡ answer (Err self) length }
+    {
+        u64::from(self) * 0x1_0000_0000 + u64::from(length)
+    }
+}
+
 // What a host gets back of a call: the number of a refusal above 32 zero bits, or how many bytes were written.
 pub fn answer(outcome: Result<u32, Refusal>) -> u64
     ensures { result ≡ as_answer outcome }
 {
     match outcome {
         Ok(length) => u64::from(length),
-        Err(refusal) => u64::from(refusal) * 0x1_0000_0000,
+        Err(refusal) => refusal.answer(0),
     }
 }
 

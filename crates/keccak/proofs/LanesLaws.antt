@@ -55,10 +55,12 @@ constants : map round_constant (range_with_len 0 24) ≡ CONSTANTS
 unfolding round_constant ◌⊻◌
 constants = refl
 
+pub constant_at : (i : ℕ) → i < 24 → get_or CONSTANTS i 0 ≡ round_constant i
+constant_at i h =
+    ap (λ (l : List ℕ). get_or l i 0) (sym constants) ∙ get_or-map-range_with_len round_constant 0 24 i i 0 h (omega arith)
+
 -- one round more, as the code does it
-pub rounds-more : (a b c d e : Lanes) (i : ℕ) → i < 24 → b ≡ rounds i a → c ≡ theta b → d ≡ pi (rho c) → e ≡ chi d
-    → set e 0 (bit_xor (get_or e 0 0) (get_or CONSTANTS i 0)) ≡ rounds (i + 1) a
+pub rounds-more : (a b c d e : Lanes) (i k : ℕ) → b ≡ rounds i a → c ≡ theta b → d ≡ pi (rho c) → e ≡ chi d → k ≡ round_constant i
+    → set e 0 (bit_xor (get_or e 0 0) k) ≡ rounds (i + 1) a
 unfolding rounds round iota
-rounds-more a b c d e i h pb pc pd pe =
-    let p = ap (λ (l : List ℕ). get_or l i 0) (sym constants) ∙ get_or-map-range_with_len round_constant 0 24 i i 0 h (omega arith) in
-    rw (p, add-one) (cc)
+rounds-more a b c d e i k pb pc pd pe pk = rw (pk, add-one) (cc)

@@ -12,13 +12,12 @@ use Rattle.bits.specs.Bytes.{bits_of, bytes, bytes_of}
 use Rattle.bits.proofs.BitsLaws.{up_to_is}
 use Rattle.bits.proofs.BytesLaws.{bits_past, length-bytes, length-bytes_of}
 use Rattle.sets.specs.declared.Set.{Set}
+use Rattle.sets.specs.Sets.{IsSet}
 use Rattle.sets.specs.Lengths.{w, public_length}
 use Rattle.circuit.specs.Matrices.{Matrix, product}
 use Rattle.circuit.specs.Lowmc.{sboxes, start, step, encryption}
 use Rattle.circuit.proofs.LowmcLaws.{encryption_past}
-use Rattle.lowmc.specs.declared.tables.Tables.{Tables}
-use Rattle.lowmc.specs.Lent.{matrix_of}
-use Rattle.lowmc.specs.Cipher.{cipher}
+use Rattle.lowmc.specs.Lent.{matrix_of, constant_of, cipher_of}
 use Rattle.lowmc.specs.Encrypted.{encrypted, public_key, HalvesOfPublicKey}
 use Rattle.lowmc.proofs.LentLaws.{whole, constant_past}
 
@@ -27,33 +26,31 @@ pub turn_of : (n : ℕ) (L K : Matrix) (key c y u k v r : Bits) → u ≡ produc
     → r ≡ product n L y ⊕ c ⊕ product n K key
 turn_of n L K key c y u k v r eu ek ev er = er ∙ ap₂ ◌⊕◌ eu (ev ∙ ap (λ (z : Bits). c ⊕ z) ek)
 
-module _ (t : Tables) where
+module _ (p : Set) (keys layers constants : Bytes) where
   -- the code's sum before the first round
-  pub start_of : (key c r : Bits) → r ≡ product t.set.n (matrix_of t.set.n t.keys.now 0) key ⊕ c → r ≡ start (cipher t) key c
+  pub start_of : (key c r : Bits) → r ≡ product p.n (matrix_of p.n keys 0) key ⊕ c → r ≡ start (cipher_of p keys layers constants) key c
   unfolding start
   start_of key c r e = e
 
   -- the code's sum of a round
-  pub step_of : (i : ℕ) (key x y c r : Bits) → y ≡ sboxes t.set.s x → c ≡ (cipher t).roundconstant i
-      → r ≡ product t.set.n ((cipher t).Lmatrix i) y ⊕ c ⊕ product t.set.n ((cipher t).Kmatrix (i + 1)) key
-      → r ≡ step (cipher t) key i x
+  pub step_of : (i : ℕ) (key x y c r : Bits) → y ≡ sboxes p.s x → c ≡ constant_of p.n constants i
+      → r ≡ product p.n (matrix_of p.n layers i) y ⊕ c ⊕ product p.n (matrix_of p.n keys (i + 1)) key
+      → r ≡ step (cipher_of p keys layers constants) key i x
   unfolding step
   step_of i key x y c r ey ec er =
-      let C = cipher t in
-      er ∙ ap₂ (λ (u v : Bits). product C.n (C.Lmatrix i) u ⊕ v ⊕ product C.n (C.Kmatrix (i + 1)) key) ey ec
+      er ∙ ap₂ (λ (u v : Bits). product p.n (matrix_of p.n layers i) u ⊕ v ⊕ product p.n (matrix_of p.n keys (i + 1)) key) ey ec
 
   -- the bytes that are stored of an encryption
-  pub stored_of : (secret block : Bytes) → length block ≡ w t.set → (key plain x : Bits) → key ≡ bits_of secret → plain ≡ bits_of block
-      → x ≡ encryption (cipher t) key plain
-      → bytes (w t.set) x ≡ encrypted t.set t.keys.now t.layers.now t.constants.now secret block
+  pub stored_of : IsSet p → (secret block : Bytes) → length block ≡ w p → (key plain x : Bits) → key ≡ bits_of secret → plain ≡ bits_of block
+      → x ≡ encryption (cipher_of p keys layers constants) key plain
+      → bytes (w p) x ≡ encrypted p keys layers constants secret block
   unfolding encrypted bytes_of
-  stored_of secret block n key plain x ek ep ex =
-      let h = t.lent.is_set in
+  stored_of h secret block n key plain x ek ep ex =
       let d = whole h in
-      ap (bytes (w t.set))
-      (ex ∙ (ap₂ (encryption (cipher t)) ek ep
-      ∙ up_to_is t.set.n _ _ (λ i l. refl)
-      (encryption_past (cipher t) (bits_of secret) (bits_of block) (constant_past h t.constants.now)
+      ap (bytes (w p))
+      (ex ∙ (ap₂ (encryption (cipher_of p keys layers constants)) ek ep
+      ∙ up_to_is p.n _ _ (λ i l. refl)
+      (encryption_past (cipher_of p keys layers constants) (bits_of secret) (bits_of block) (constant_past h constants)
       (λ i l. bits_past block i (omega arith)))))
 
 -- what stands in a slice whose first bytes, as many as the code's width x, are stored

@@ -1,4 +1,4 @@
--- LowMC of lent tables.
+-- Cited by inner contracts alone: LowMC of lent tables.
 use Rattle.circuit.specs.Lowmc.{Cipher}
 use Rattle.lowmc.specs.declared.tables.Tables.{Tables}
 use Rattle.lowmc.specs.Lent.{cipher_of}

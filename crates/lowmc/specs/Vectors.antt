@@ -1,4 +1,4 @@
--- Arrays of blocks: vectors that are multiplied by the same matrices.
+-- Cited by inner contracts alone: arrays of blocks, vectors that are multiplied by the same matrices.
 use Rattle.std.specs.Prelude.{List, [], ℕ, get_or}
 use Rattle.bits.specs.declared.Block.{Block}
 

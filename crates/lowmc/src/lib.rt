@@ -10,7 +10,7 @@ ghost use Rattle.bits.specs.Inner.{low_bits};
 ghost use Rattle.lowmc.specs.Vectors.{at};
 ghost use Rattle.sets.specs.Sets.{IsSet};
 ghost use Rattle.answers.specs.Answers.{first, as_answer};
-ghost use Rattle.sets.specs.Lengths.{w};
+ghost use Rattle.sets.specs.Lengths.{w, keys_length, layers_length};
 ghost use Rattle.circuit.specs.Matrices.{row_parity, product};
 ghost use Rattle.circuit.specs.Lowmc.{sboxes};
 ghost use Rattle.circuit.specs.Gates.{left_factor, right_factor, sboxes_by};
@@ -241,6 +241,26 @@ fn xor_each<const N: usize>(x: [Block; N], y: [Block; N]) -> [Block; N]
         *a = a.xor(y[k]);
     }
     z
+}
+
+// What follows the S-boxes of a round, y, for each of N keys, with a block c of its own: Lmatrix[i]·y, c, and Kmatrix[i+1]·key. It
+// reads no constants.
+pub fn turn<const N: usize>(
+    p: Set,
+    keys: &[u8],
+    layers: &[u8],
+    i: usize,
+    key: [Block; N],
+    c: [Block; N],
+    y: [Block; N],
+) -> [Block; N]
+    requires { IsSet p × (length keys.now ≡ keys_length p) × (length layers.now ≡ layers_length p) × (i < p.r) }
+    ensures { (k : ℕ) → k < N → block_bits (at result k) ≡ product p.n (matrix_of p.n layers.now i) (block_bits (at y.entry k))
+        ⊕ block_bits (at c.entry k) ⊕ product p.n (matrix_of p.n keys.now (i + 1)) (block_bits (at key.entry k)) }
+{
+    let l = products(p, layers, i, y);
+    let m = products(p, keys, i + 1, key);
+    xor_each(l, xor_each(c, m))
 }
 
 // What the calls over LowMC refuse, by the lengths of their slices.

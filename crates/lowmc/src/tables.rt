@@ -5,7 +5,7 @@
 ghost use Rattle.lowmc.specs.Lent.{Lent};
 ghost use Rattle.lowmc.specs.LentProp.{Lent-prop};
 
-use crate::{piece, products, sboxes, xor_each};
+use crate::{piece, products, sboxes, turn, xor_each};
 use bits::Block;
 use sets::Set;
 
@@ -58,9 +58,7 @@ impl Tables<'_> {
         ensures { (k : ℕ) → k < N → block_bits (at result k) ≡ product self.now.set.n ((cipher self.now).Lmatrix i) (block_bits (at y.entry k))
             ⊕ block_bits (at c.entry k) ⊕ product self.now.set.n ((cipher self.now).Kmatrix (i + 1)) (block_bits (at key.entry k)) }
     {
-        let l = products(self.set, self.layers, i, y);
-        let m = products(self.set, self.keys, i + 1, key);
-        xor_each(l, xor_each(c, m))
+        turn(self.set, self.keys, self.layers, i, key, c, y)
     }
 
     // A round of LowMC.

@@ -99,6 +99,23 @@ pub fn committed(
     seed: &[u8],
     share: &[u8],
     transcript: &[u8],
+    output_share: &[u8],
+) -> [u8; 64]
+    requires { IsSet p }
+    ensures { take p.digest result ≡ commitment p seed.now share.now transcript.now output_share.now }
+{
+    let n = p.digest;
+    let mut d = [0u8; 64];
+    hashing::commit(p, seed, share, transcript, output_share, &mut d[..n]);
+    d
+}
+
+// The same, where the output share is a block.
+pub fn committed_block(
+    p: Set,
+    seed: &[u8],
+    share: &[u8],
+    transcript: &[u8],
     output_share: Block,
 ) -> [u8; 64]
     requires { IsSet p }
@@ -106,11 +123,8 @@ pub fn committed(
         ≡ commitment p seed.now share.now transcript.now (bytes_of p.n (block_bits output_share)) }
 {
     let w = p.width();
-    let n = p.digest;
     let y = stored(p, output_share);
-    let mut d = [0u8; 64];
-    hashing::commit(p, seed, share, transcript, &y[..w], &mut d[..n]);
-    d
+    committed(p, seed, share, transcript, &y[..w])
 }
 
 // The output shares of round t in the room: x of party e, y of e+1 and z of e+2.

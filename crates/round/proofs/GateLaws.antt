@@ -4,17 +4,18 @@ use mathlib.Core.Bool.{Bool, ◌&&◌, cond}
 use Prim.Native.Nat.{ℕ, ◌+◌, ◌*◌, ◌≤◌, ◌<◌}
 use native.Mathlib.Omega.{arith}
 use lib.Bits.{bit_xor, bit_and}
+use Rattle.slices.specs.Slices.{Bytes}
 use Rattle.bits.specs.Bits.{◌⊻◌, Bits, ◌⊕◌, up_to, zeros, Agree}
 use Rattle.bits.specs.Words.{word_bits}
 use Rattle.bits.proofs.BitsLaws.{xor_assoc, up_to_in, up_to_cong}
 use Rattle.bits.proofs.WordsLaws.{holds_self, holds_and, holds_xor}
+use Rattle.sets.specs.declared.Set.{Set}
 use Rattle.circuit.specs.Matrices.{product}
 use Rattle.circuit.specs.Gates.{left_factor, right_factor, sboxes_by}
 use Rattle.circuit.specs.Lowmc.{Cipher}
 use Rattle.circuit.specs.Round.{gate, gates, advance}
 use Rattle.circuit.proofs.RoundLaws.{advance_cong}
-use Rattle.lowmc.specs.Cipher.{cipher}
-use Rattle.lowmc.specs.declared.tables.Tables.{Tables}
+use Rattle.lowmc.specs.Lent.{matrix_of, cipher_of}
 
 -- a bit of a word that holds m bits
 row_at : (m : ℕ) (f : Bits) (a : ℕ) → word_bits a ≡ up_to m f → (i : ℕ) → i < m → word_bits a i ≡ f i
@@ -49,14 +50,13 @@ pub into_of : (b : Bool) (c c' r : Bits) → c ≡ c' → r ≡ cond b c zeros �
 into_of b c c' r e h = h ∙ ap (λ (x : Bits). cond b x zeros) e
 
 -- the code's sum of a round on a share
-pub advance_of : (t : Tables) (i : ℕ) (share c c' x g y r : Bits) → c ≡ c' → y ≡ sboxes_by t.set.s x g
-    → r ≡ product t.set.n ((cipher t).Lmatrix i) y ⊕ c ⊕ product t.set.n ((cipher t).Kmatrix (i + 1)) share
-    → r ≡ advance (cipher t) i share c' x g
+pub advance_of : (p : Set) (keys layers constants : Bytes) (i : ℕ) (share c c' x t y r : Bits) → c ≡ c' → y ≡ sboxes_by p.s x t
+    → r ≡ product p.n (matrix_of p.n layers i) y ⊕ c ⊕ product p.n (matrix_of p.n keys (i + 1)) share
+    → r ≡ advance (cipher_of p keys layers constants) i share c' x t
 unfolding advance
-advance_of t i share c c' x g y r ec ey er =
-    er ∙ (λ k. product t.set.n ((cipher t).Lmatrix i) (ey k) ⊕ ec k ⊕ product t.set.n ((cipher t).Kmatrix (i + 1)) share)
+advance_of p keys layers constants i share c c' x t y r ec ey er =
+    er ∙ (λ k. product p.n (matrix_of p.n layers i) (ey k) ⊕ ec k ⊕ product p.n (matrix_of p.n keys (i + 1)) share)
 
--- a round by the word of a row of gates
 pub advance-row : (C : Cipher) (i : ℕ) (share c x t : Bits) (g : ℕ) → word_bits g ≡ up_to (3 * C.s) t
     → advance C i share c x (word_bits g) ≡ advance C i share c x t
 advance-row C i share c x t g e = advance_cong C i share c x (word_bits g) t (row_at (3 * C.s) t g e)

@@ -1,3 +1,4 @@
 pub mod Sets
+pub mod SetsProp
 pub mod Lengths
 pub mod Figures

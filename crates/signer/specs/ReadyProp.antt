@@ -1,4 +1,4 @@
--- Any two proofs that a signature can be made are equal, so that the fact can be a ghost field.
+-- Cited by inner contracts alone: any two proofs that a signature can be made are equal, so that the fact can be a ghost field.
 use Rattle.std.specs.Prelude.{List}
 use Rattle.bits.specs.declared.Block.{Block}
 use Rattle.std.proofs.Props.{props}

@@ -106,7 +106,7 @@ fn commit_party(p: Set, seed: &[u8], share: Block, said: [u8; 143], output_share
     let w = p.width();
     let m = p.transcript();
     let x = room::stored(p, share);
-    room::committed(p, seed, &x[..w], &said[..m], output_share)
+    room::committed_block(p, seed, &x[..w], &said[..m], output_share)
 }
 
 // The share that is shown for e, at the start of an array: that of party 2, or zeros where e is 0.

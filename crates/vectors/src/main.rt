@@ -1,7 +1,7 @@
 // Runs published vectors against the library and prints, for each file, how many cases it has and how many agree.
 #![tactic(auto)]
 
-ghost use Rattle.std.specs.Prelude.{◌≡◌, ◌≤◌, length};
+ghost use Rattle.std.specs.Prelude.{◌≡◌, ◌+◌, ◌-◌, ◌^◌, ◌≤◌, length, min};
 
 use std::rt::Files;
 use std::{fs, io};
@@ -52,16 +52,47 @@ fn is_case(line: &[u8]) -> bool {
     line.first().is_some_and(|b| *b != b'#')
 }
 
-// How many cases of SHAKE are in text, a line each, and how many of them agree under the SHAKE of a set.
-fn show(rt: &impl Print, name: &str, set: u64, text: &[u8]) -> io::Result<()> {
-    let cases = text
-        .split(|b| *b == b'\n')
-        .filter(|line| is_case(line))
-        .count();
-    let agree = text
-        .split(|b| *b == b'\n')
-        .filter(|line| is_case(line) && agrees(set, line))
-        .count();
+// How many cases a text has, and how many of them agree.
+#[derive(Clone, Copy)]
+struct Tally {
+    cases: u64,
+    agree: u64,
+    ghost no_more: { agree ≤ cases },
+}
+
+impl Tally {
+    // One case more. A number that is the largest stays.
+    fn with(self, agrees: bool) -> Self
+        ensures { (result.cases ≡ min (self.cases + 1) (2 ^ 64 - 1)) × (result.agree ≤ self.agree + 1) }
+    {
+        Tally {
+            cases: self.cases.saturating_add(1),
+            agree: self.agree.saturating_add(u64::from(agrees)),
+        }
+    }
+}
+
+// The tally with the case of SHAKE that a line holds, if it holds one.
+fn counted(tally: Tally, set: u64, line: &[u8]) -> Tally
+    ensures { result.cases ≤ tally.cases + 1 }
+{
+    if !is_case(line) {
+        return tally;
+    }
+    tally.with(agrees(set, line))
+}
+
+// The cases of SHAKE in text, a line each, under the SHAKE of a set.
+fn shake_cases(set: u64, text: &[u8]) -> Tally {
+    let mut tally = Tally { cases: 0, agree: 0 };
+    for line in text.split(|b| *b == b'\n') {
+        tally = counted(tally, set, line);
+    }
+    tally
+}
+
+fn show(rt: &impl Print, name: &str, tally: Tally) -> io::Result<()> {
+    let Tally { cases, agree } = tally;
     println!(rt; "{name}\t{cases} cases\t{agree} agree")
 }
 
@@ -80,7 +111,7 @@ fn shake_file(rt: &(impl Files + Print + Eprint), name: &str, set: u64) -> io::R
     };
     let mut text = zeros::<ROOM>();
     let n = input::fill(&mut file, &mut text)?;
-    show(rt, name, set, &text[..n])
+    show(rt, name, shake_cases(set, &text[..n]))
 }
 
 fn main(rt: HostRuntime) -> io::Result<()> {

@@ -1,4 +1,4 @@
--- Any two proofs that two outcomes of checks are equal are equal, so that the fact can be a ghost field.
+-- Cited by inner contracts alone: any two proofs that two outcomes of checks are equal are equal, so that the fact can be a ghost field.
 use Rattle.std.proofs.Props.{props}
 use Rattle.std.specs.Prelude.{◌≡◌}
 use Rattle.answers.specs.Answers.{Checked}

@@ -170,7 +170,7 @@ fn commit_first(p: Set, seed: &[u8], share: &[u8], again: Again) -> [u8; 64]
 {
     let m = p.transcript();
     let s = room::transcribed(p, again.said);
-    room::committed(p, seed, share, &s[..m], again.first)
+    room::committed_block(p, seed, share, &s[..m], again.first)
 }
 
 // The commitments of round t in the room: two recomputed, and the third from the signature.
@@ -190,7 +190,7 @@ fn put_commitments(p: Set, t: usize, e: u8, x: Opened, shown: &Shown, room: &mut
     let share1 = x.share1;
     let share2 = x.share2;
     let a = commit_first(p, shown.seed1, &share1[..w], again);
-    let b = room::committed(p, shown.seed2, &share2[..w], shown.transcript, again.second);
+    let b = room::committed_block(p, shown.seed2, &share2[..w], shown.transcript, again.second);
     room::put_commitments(p, t, e, &a[..n], &b[..n], shown.commitment, room);
 }
 

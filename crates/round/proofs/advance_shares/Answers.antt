@@ -4,5 +4,6 @@ use Rattle.round.proofs.advance_shares.Goals as goal
 
 pub returns : goal.returns
 returns c =
-    λ k l. advance_of c.args.tables.now c.args.i _ _ _ _ _ _ _
+    let t = c.args.tables.now in
+    λ k l. advance_of t.set t.keys.now t.layers.now t.constants.now c.args.i _ _ _ _ _ _ _
     (into_of _ _ _ _ c.constant.ensures (c.public_parts-c.ensures k l)) (c.substitute.ensures k l) (c.turn.ensures k l)

@@ -1,19 +1,38 @@
 -- `bits::Block::store` meets its contract.
-use Rattle.std.proofs.Common.{◌*◌, sym, ap, ◌∙◌, rules, ◌≡◌, get_or, ℕ, ◌<◌, arith, length, take, []}
-use Rattle.std.specs.Int.{to_be_bytes}
-use mir.Syntax.{w64}
-use Rattle.bits.specs.Words.{list_bits}
+use native.Mathlib.Omega.{arith}
+use mathlib.Core.Path.{◌≡◌, refl, ap, ◌∙◌}
+use mathlib.Core.List.{List}
+use Prim.Native.Nat.{ℕ, ◌*◌}
+use lib.ListN.{length, get_or, take, replicate}
+use lib.Seq.{length-take-le}
+use Rattle.slices.specs.Slices.{put}
+use Rattle.slices.proofs.SliceLaws.{put_all, over-whole}
 use Rattle.bits.specs.Bytes.{bytes}
-use Rattle.bits.proofs.WordsLaws.{flat_words, bytes_first}
+use Rattle.bits.specs.Words.{word_bits, list_bits}
+use Rattle.bits.proofs.BytesLaws.{put_no_bytes, length-bytes}
+use Rattle.bits.proofs.WordsLaws.{put_word, bytes_first}
 use Rattle.bits.proofs.Block.store.Goals as goal
+
+pub loop-k-init : goal.loop-k-init
+loop-k-init c = (refl, put_no_bytes (replicate 32 0) 0 _)
+
+pub loop-k-preserved : goal.loop-k-preserved
+loop-k-preserved c =
+    let ws = c.args.self.words in
+    let l = c.loop-k in
+    let w = c.store_word in (
+      w.auto.s ∙ l.invariant.0,
+      w.ensures ∙ ap (λ (y : List ℕ). put y (8 * l.k) (bytes 8 (word_bits (get_or ws l.k 0)))) l.invariant.1
+          ∙ put_word (replicate 32 0) ws l.k (omega arith),
+    )
 
 pub returns : goal.returns
 returns c =
-    let ws = c.args.self.words in
-    let l : length ws ≡ 4 = search rules in
-    let bs = c.map-b.result in
-    let each : (k : ℕ) → k < 4 → get_or bs k [] ≡ to_be_bytes w64 (get_or ws k 0) = λ k h. search rules in
+    let x = list_bits c.args.self.words in
+    let l = c.loop-k in
     let n = length c.args.s.now in
-    c.copy_from_slice.ensures.after
-    ∙ ap (take n) (c.as_flattened.ensures.value ∙ flat_words bs ws (c.map-b.ensures.items.long ∙ sym l) (λ k h. each k (omega arith)) ∙ ap (λ (m : ℕ). bytes (8 * m) (list_bits ws)) l)
-    ∙ bytes_first n 32 (list_bits ws) c.requires
+    let e : l.k ≡ 4 = omega arith in
+    c.copy.ensures
+    ∙ over-whole (take n l.b) c.args.s.now (length-take-le n l.b (omega (arith, l.invariant.0, c.requires)))
+    ∙ ap (take n) (l.invariant.1 ∙ ap (λ (k : ℕ). put (replicate 32 0) 0 (bytes (8 * k) x)) e ∙ put_all (replicate 32 0) (bytes 32 x) (length-bytes 32 x))
+    ∙ bytes_first n 32 x c.requires

@@ -27,5 +27,5 @@ returns c =
     let w = c.width-w in
     let x : Bits = block_bits c.encryption-x.result in
     start-written a.output.now _ _ w.result (lengths.w t.set) x w.ensures h.2 c.store.ensures
-    (stored_of t a.secret.now a.block.now h.1 _ _ x
+    (stored_of t.set t.keys.now t.layers.now t.constants.now t.lent.is_set a.secret.now a.block.now h.1 _ _ x
     c.load-key.ensures c.load.ensures c.encryption-x.ensures)

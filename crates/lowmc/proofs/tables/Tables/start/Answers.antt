@@ -9,5 +9,6 @@ use Rattle.lowmc.proofs.tables.Tables.start.Goals as goal
 pub returns : goal.returns
 returns g c k l =
     let a = c.args in
-    start_of a.self.now (block_bits (at a.key k)) (block_bits (at a.c k)) _
+    let t = a.self.now in
+    start_of t.set t.keys.now t.layers.now t.constants.now (block_bits (at a.key k)) (block_bits (at a.c k)) _
     (c.xor_each.ensures k l ∙ ap (λ (y : Bits). y ⊕ block_bits (at a.c k)) (c.products.ensures k l))

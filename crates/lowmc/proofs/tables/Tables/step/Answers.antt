@@ -7,4 +7,6 @@ use Rattle.lowmc.proofs.tables.Tables.step.Goals as goal
 pub returns : goal.returns
 returns c =
     let a = c.args in
-    step_of a.self.now a.i (block_bits a.key) (block_bits a.x) _ _ _ c.sboxes.ensures c.constant-c.ensures (c.turn.ensures 0 (omega arith))
+    let t = a.self.now in
+    step_of t.set t.keys.now t.layers.now t.constants.now a.i (block_bits a.key) (block_bits a.x) _ _ _
+    c.sboxes.ensures c.constant-c.ensures (c.turn.ensures 0 (omega arith))
