@@ -22,6 +22,15 @@ returns-in_err-check_lengths c =
 pub check-requires : goal.check-requires
 check-requires c = known_set c.args.set _ (sym c.numbered.ensures ∙ c.in_ok-p.ensures.ok_part)
 
+pub invariant_of-verifying : goal.invariant_of-verifying
+invariant_of-verifying c =
+    let a = c.args in
+    let g = handed 0 a.keys.now a.layers.now a.constants.now a.public.now a.message.now a.limit a.room.now a.signature.now in
+    record {
+      public_long = (fitting (known_set a.set _ (sym c.numbered.ensures ∙ c.in_ok-p.ensures.ok_part)) g (sym c.in_ok-check_lengths.ensures)).public-long;
+      reads = sym c.in_ok-check.ensures;
+    }
+
 pub returns-in_err-check : goal.returns-in_err-check
 returns-in_err-check c =
     unread _ _ (sym c.numbered.ensures ∙ c.in_ok-p.ensures.ok_part) (sym c.in_ok-check_lengths.ensures) (sym c.in_err-check.ensures)
@@ -32,15 +41,6 @@ invariant_of-tables c =
     let a = c.args in
     let g = handed 0 a.keys.now a.layers.now a.constants.now a.public.now a.message.now a.limit a.room.now a.signature.now in
     record { lent = (fitting (known_set a.set _ (sym c.numbered.ensures ∙ c.in_ok-p.ensures.ok_part)) g (sym c.in_ok-check_lengths.ensures)).lent }
-
-pub invariant_of-verifying : goal.invariant_of-verifying
-invariant_of-verifying c =
-    let a = c.args in
-    let g = handed 0 a.keys.now a.layers.now a.constants.now a.public.now a.message.now a.limit a.room.now a.signature.now in
-    record {
-      public_long = (fitting (known_set a.set _ (sym c.numbered.ensures ∙ c.in_ok-p.ensures.ok_part)) g (sym c.in_ok-check_lengths.ensures)).public-long;
-      reads = sym c.in_ok-check.ensures;
-    }
 
 pub verdict-requires : goal.verdict-requires
 verdict-requires c =
