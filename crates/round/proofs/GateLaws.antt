@@ -57,6 +57,7 @@ unfolding advance
 advance_of p keys layers constants i share c c' x t y r ec ey er =
     er ∙ (λ k. product p.n (matrix_of p.n layers i) (ey k) ⊕ ec k ⊕ product p.n (matrix_of p.n keys (i + 1)) share)
 
+-- a round by the word of a row of gates
 pub advance-row : (C : Cipher) (i : ℕ) (share c x t : Bits) (g : ℕ) → word_bits g ≡ up_to (3 * C.s) t
     → advance C i share c x (word_bits g) ≡ advance C i share c x t
 advance-row C i share c x t g e = advance_cong C i share c x (word_bits g) t (row_at (3 * C.s) t g e)
